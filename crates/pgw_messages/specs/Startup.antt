@@ -1,0 +1,19 @@
+-- The startup packet (PostgreSQL manual, Message Formats, StartupMessage): a length that counts itself, the
+-- version 3.0, the parameters as zero-ended names and values, and a zero byte.
+use Rattle.std.specs.Prelude.{ℕ, ◌+◌, ◌≤◌, List, [], ◌∷◌, ◌++◌, length}
+use Rattle.std.specs.Int.{w32, to_be_bytes}
+use Rattle.std.specs.List.{flat_map}
+use Rattle.pgw_messages.specs.declared.params.Pair.{Pair}
+
+abbrev pub pair_bytes : Pair → List ℕ
+pair_bytes q = q.name ++ 0 ∷ q.value ++ 0 ∷ []
+
+abbrev pub startup_body : List Pair → List ℕ
+startup_body p = to_be_bytes w32 196608 ++ flat_map pair_bytes p ++ 0 ∷ []
+
+unfoldable pub startup_packet : List Pair → List ℕ
+startup_packet p = to_be_bytes w32 (length (startup_body p) + 4) ++ startup_body p
+
+-- the startup packet of these parameters is within its limit
+abbrev pub Fits : List Pair → Type 0
+Fits p = length (startup_packet p) ≤ 11900000

@@ -1,0 +1,100 @@
+//! The parameters of a session.
+
+ghost use Rattle.std.specs.Prelude.{◌≡◌, ◌==◌, [], length, position, slice_get, OnOk, OnErr};
+ghost use Rattle.std.specs.Option.{option_copied};
+ghost use Rattle.pgw_messages.specs.Params.{value_of, with_value, is_named};
+
+use pgw_frames::{NoMemory, Text};
+use std::alloc::Global;
+use std::marker::Model;
+
+/// A name with its value.
+#[derive(Debug, Drop)]
+pub struct Pair {
+    pub name: Text,
+    pub value: Text,
+}
+
+/// A list of names with values. The names differ.
+#[derive(Debug, Drop)]
+pub struct Params {
+    pairs: Vec<Pair>,
+}
+
+impl Model for Params {
+    ghost use Rattle.std.specs.Prelude.{List};
+    ghost use Rattle.pgw_messages.specs.declared.params.Pair.{Pair};
+    ghost use Rattle.pgw_messages.specs.Params.{HasDistinctNames};
+
+    ghost Value = { List Pair };
+
+    ghost view = { λ p. p.pairs.items };
+
+    ghost invariant = { λ p. HasDistinctNames p.pairs.items };
+}
+
+/// Where the pair of this name stands.
+fn place_of(pairs: &[Pair], name: &str) -> Option<usize>
+    ensures { result ≡ position (is_named name.now) pairs.now }
+{
+    pairs.iter().position(|q| q.name.as_str() == name)
+}
+
+impl Params {
+    /// No parameters. It takes no memory.
+    pub fn new(alloc: Global) -> Params
+        ensures { result ≡ [] }
+    {
+        Params {
+            pairs: Vec::new(alloc),
+        }
+    }
+
+    /// Replaces the value of a name that is there, and else adds the pair last. An `Err` changes
+    /// nothing.
+    pub fn put(&mut self, name: &str, value: &str) -> Result<(), NoMemory>
+        ensures ok { OnOk result (self.new ≡ with_value name.now value.now self.old) }
+        ensures err { OnErr result (self.new ≡ self.old) }
+    {
+        let alloc = *self.pairs.allocator();
+        let value = Text::of(alloc, value)?;
+        match place_of(self.pairs.as_slice(), name) {
+            Some(i) => {
+                self.pairs[i].value = value;
+                Ok(())
+            }
+            None => {
+                let name = Text::of(alloc, name)?;
+                self.pairs.push(Pair { name, value })?;
+                Ok(())
+            }
+        }
+    }
+
+    /// The value of a name.
+    pub fn value(&self, name: &str) -> Option<&str>
+        ensures { option_copied result ≡ value_of name.now self.now }
+    {
+        let i = place_of(self.pairs.as_slice(), name)?;
+        Some(self.pairs[i].value.as_str())
+    }
+
+    pub fn len(&self) -> usize
+        ensures { result ≡ length self.now }
+    {
+        self.pairs.len()
+    }
+
+    pub fn is_empty(&self) -> bool
+        ensures { result ≡ (length self.now == 0) }
+    {
+        self.pairs.is_empty()
+    }
+
+    /// The pair at this place, counted from 0.
+    pub fn get(&self, i: usize) -> Option<&Pair>
+        ensures { option_copied result ≡ slice_get self.now i }
+    {
+        self.pairs.get(i)
+    }
+}

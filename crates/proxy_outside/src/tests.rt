@@ -1,0 +1,32 @@
+use super::*;
+use std::test::*;
+
+#[test]
+fn a_source_in_pieces(rt: HostRuntime) -> Result<(), Fail> {
+    let mut s = MemSource::make(rt.alloc(), b"abcde", 2, &[2], &[3])?;
+    let mut buf = [0u8; 4];
+    let rows = [
+        (Took::Got(2), b'a'),
+        (Took::Idle, b'a'),
+        (Took::Failed, b'a'),
+        (Took::Got(2), b'c'),
+        (Took::Got(1), b'e'),
+        (Took::End, b'e'),
+        (Took::End, b'e'),
+    ];
+    for (want, first) in rows {
+        assert_eq!(rt; s.read(&mut buf), want);
+        assert_eq!(rt; buf[0], first, "at {want:?}");
+    }
+    Ok(())
+}
+
+#[test]
+fn a_sink_in_pieces(rt: HostRuntime) -> Result<(), Fail> {
+    let mut k = MemSink::make(rt.alloc(), 3, &[2])?;
+    assert_eq!(rt; k.write(b"abcde"), Gave::Took(3));
+    assert_eq!(rt; k.write(b"de"), Gave::Failed);
+    assert_eq!(rt; k.write(b"de"), Gave::Took(2));
+    assert_eq!(rt; k.contents(), b"abcde".as_slice());
+    Ok(())
+}

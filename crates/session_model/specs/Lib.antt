@@ -1,0 +1,9 @@
+pub mod Kind
+pub mod Tags
+pub mod Texts
+pub mod Laws
+pub mod Solo
+pub mod Heard
+pub mod SafePoint
+pub mod Reached
+pub mod Stands
