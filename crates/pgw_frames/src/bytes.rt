@@ -1,6 +1,6 @@
 //! A string of bytes that contracts see as a list.
 
-ghost use Rattle.std.specs.Prelude.{◌≡◌, ◌==◌, [], ◌∷◌, ◌++◌, ◌+◌, ◌≤◌, length, take, OnOk, OnErr, IfOk};
+ghost use Rattle.std.specs.Prelude.{◌≡◌, ◌==◌, [], ◌∷◌, ◌++◌, ◌+◌, ◌≤◌, length, take, drop, OnOk, OnErr, IfOk};
 ghost use Rattle.std.specs.Int.{w32, to_be_bytes};
 
 use crate::memory::NoMemory;
@@ -86,6 +86,18 @@ impl Bytes {
         ensures { self.new ≡ take len self.old }
     {
         self.items.truncate(len);
+    }
+
+    /// Drops the first bytes. It takes no memory.
+    pub fn drop_front(&mut self, count: usize)
+        requires { count ≤ length self.old }
+        ensures { self.new ≡ drop count self.old }
+    {
+        self.items.drain(..count);
+    }
+
+    pub(crate) fn allocator(&self) -> Global {
+        *self.items.allocator()
     }
 
     /// Appends a type byte, a length and a body. An `Err` changes nothing.

@@ -1,12 +1,13 @@
 //! Cutting a stream of bytes into frames.
 
-ghost use Rattle.std.specs.Prelude.{◌≡◌, ◌≤◌, [], ◌∷◌, ◌++◌, length, drop, vec_len, OnOk, OnErr, IfOk};
+ghost use Rattle.std.specs.Prelude.{◌≡◌, ◌≤◌, [], ◌∷◌, ◌++◌, length, drop, OnOk, OnErr, IfOk};
 ghost use Rattle.pgw_frames.specs.Frames.{front};
 ghost use Rattle.pgw_frames.specs.Cutting.{Answers, HasGoodFrame, HasFrame};
 
 use crate::bytes::Bytes;
 use crate::frame::Frame;
 use crate::memory::NoMemory;
+use crate::queue::ByteQueue;
 use std::alloc::Global;
 use std::marker::Model;
 
@@ -24,26 +25,15 @@ pub enum Next {
 /// Cuts a stream into frames, in whatever pieces it comes. Contracts see the bytes that it holds.
 #[derive(Debug, Drop)]
 pub struct Cutter {
-    buffer: Vec<u8>,
-    start: usize,
+    held: ByteQueue,
 }
 
 impl Model for Cutter {
-    ghost use Rattle.std.specs.Prelude.{List, ℕ, drop, ◌≤◌, vec_len};
+    ghost use Rattle.std.specs.Prelude.{List, ℕ};
 
     ghost Value = { List ℕ };
 
-    ghost view = { λ c. drop c.start c.buffer.items };
-
-    ghost invariant = { λ c. c.start ≤ vec_len c.buffer };
-}
-
-/// Drops the first bytes.
-fn drop_front(buffer: &mut Vec<u8>, count: usize)
-    requires { count ≤ vec_len buffer.old }
-    ensures { buffer.new.items ≡ drop count buffer.old.items }
-{
-    buffer.drain(..count);
+    ghost view = { λ c. c.held };
 }
 
 /// What stands at the front of these bytes, and how many bytes it takes.
@@ -81,8 +71,7 @@ impl Cutter {
         ensures { result ≡ [] }
     {
         Cutter {
-            buffer: Vec::new(alloc),
-            start: 0,
+            held: ByteQueue::new(alloc),
         }
     }
 
@@ -91,13 +80,7 @@ impl Cutter {
         ensures ok { OnOk result (self.new ≡ self.old ++ piece.now) }
         ensures err { OnErr result (self.new ≡ self.old) }
     {
-        // What was handed out goes once it is half of the buffer, so that each byte is moved a bounded
-        // number of times.
-        if self.start > self.buffer.len() / 2 {
-            drop_front(&mut self.buffer, self.start);
-            self.start = 0;
-        }
-        self.buffer.extend_from_slice(piece)?;
+        self.held.extend(piece)?;
         Ok(())
     }
 
@@ -108,9 +91,8 @@ impl Cutter {
         ensures no_memory { OnErr result (HasFrame (front self.old)) }
         ensures err { OnErr result (self.new ≡ self.old) }
     {
-        let alloc = *self.buffer.allocator();
-        let (next, count) = next_of(alloc, &self.buffer[self.start..])?;
-        self.start += count;
+        let (next, count) = next_of(self.held.allocator(), self.held.as_slice())?;
+        self.held.drop_front(count);
         Ok(next)
     }
 
@@ -118,6 +100,6 @@ impl Cutter {
     pub fn held(&self) -> usize
         ensures { result ≡ length self.now }
     {
-        self.buffer.len() - self.start
+        self.held.len()
     }
 }

@@ -12,6 +12,7 @@ mod cutter;
 mod frame;
 mod laws;
 mod memory;
+mod queue;
 mod stream;
 mod text;
 
@@ -20,6 +21,7 @@ pub use cutter::{Cutter, Next};
 pub use frame::{Frame, Frames, MOST_BODY, write_frame};
 pub use laws::{bad_length_stays, frames_are_the_longest};
 pub use memory::NoMemory;
+pub use queue::ByteQueue;
 pub use stream::{Cuts, cut_all};
 pub use text::Text;
 

@@ -1,5 +1,5 @@
 -- What a sink in memory takes.
-use Rattle.std.specs.Prelude.{◌≡◌, ℕ, Bool, true, false, min, List, length, Some}
+use Rattle.std.specs.Prelude.{◌≡◌, ℕ, false, min, List, length, Some}
 use Rattle.proxy_outside.specs.Writing.{Target}
 use Rattle.proxy_outside.specs.Supply.{Store, next_call, is_listed}
 use Rattle.proxy_outside.specs.declared.sink.Gave.{Gave}

@@ -1,5 +1,5 @@
 -- What a source in memory gives.
-use Rattle.std.specs.Prelude.{◌≡◌, ◌≤◌, ℕ, Bool, true, false, length, take, drop, Some}
+use Rattle.std.specs.Prelude.{◌≡◌, ◌≤◌, true, false, length, take, drop, Some}
 use Rattle.proxy_outside.specs.Reading.{Origin}
 use Rattle.proxy_outside.specs.Supply.{Supply, next_call, is_listed}
 use Rattle.proxy_outside.specs.declared.source.Took.{Took}

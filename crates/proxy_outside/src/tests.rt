@@ -1,4 +1,5 @@
 use super::*;
+use std::io::Cursor;
 use std::test::*;
 
 #[test]
@@ -28,5 +29,19 @@ fn a_sink_in_pieces(rt: HostRuntime) -> Result<(), Fail> {
     assert_eq!(rt; k.write(b"de"), Gave::Failed);
     assert_eq!(rt; k.write(b"de"), Gave::Took(2));
     assert_eq!(rt; k.contents(), b"abcde".as_slice());
+    Ok(())
+}
+
+#[test]
+fn a_reader_and_a_writer(rt: HostRuntime) -> Result<(), Fail> {
+    let alloc = rt.alloc();
+    let mut s = ReaderSource::make(alloc, Cursor::new(b"abc"), 2)?;
+    let mut buf = [0u8; 4];
+    assert_eq!(rt; s.read(&mut buf), Took::Got(2));
+    assert_eq!(rt; buf, [b'a', b'b', 0, 0]);
+    assert_eq!(rt; s.read(&mut buf), Took::Got(1));
+    assert_eq!(rt; s.read(&mut buf), Took::End);
+    let mut k = WriterSink::new(Vec::new(alloc));
+    assert_eq!(rt; k.write(b"abc"), Gave::Took(3));
     Ok(())
 }

@@ -1,1 +1,4 @@
 pub mod Reaching
+pub mod Digits
+pub mod Rows
+pub mod Sizes

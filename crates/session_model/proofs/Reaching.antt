@@ -1,5 +1,5 @@
 -- A machine that was run from its opening, and one more command.
-use Rattle.std.proofs.Common.{◌≡◌, List, [], ◌∷◌, ◌++◌, Option, Some, None, refl, sym, ap, subst}
+use Rattle.std.proofs.Common.{◌≡◌, List, [], ◌∷◌, ◌++◌, Option, Some, None, refl, sym, subst}
 use Rattle.proxy_outside.specs.Rules.{Rules, after}
 use Rattle.session_model.specs.Kind.{Answers}
 use Rattle.session_model.specs.Reached.{IsReached}

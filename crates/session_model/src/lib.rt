@@ -9,13 +9,20 @@
 #![tactic(auto)]
 
 mod pod_session;
+mod result_set;
 mod session;
 mod shared_store;
 mod solo;
+mod texts;
 mod transfer;
 
 pub use pod_session::PodSession;
+pub use result_set::ready;
 pub use session::Session;
 pub use shared_store::{SharedStore, answer_of};
 pub use solo::Solo;
+pub use texts::{digits_reply, restore_reply, restore_text, transfer_reply, transfer_text};
 pub use transfer::{Dump, TransferKey};
+
+#[cfg(test)]
+mod tests;

@@ -1,7 +1,6 @@
-use Rattle.std.proofs.Common.{rules, ◌≡◌, ◌≤◌, Some, take, drop, List, ℕ, length, ◌+◌, ◌++◌, arith, refl, sym, ap, ◌∙◌}
+use Rattle.std.proofs.Common.{rules, ◌≡◌, take, drop, List, ℕ, arith, refl, ap, ◌∙◌}
 use Rattle.std.proofs.Math.Seq.{take-add}
 use Rattle.std.proofs.lemmas.List.{take-append-drop, drop-drop}
-use Rattle.proxy_outside.specs.Supply.{Supply}
 use Rattle.proxy_outside.proofs.mem_source.MemSourceSource.read.Goals as goal
 
 pub returns-clause-reads : goal.returns-clause-reads

@@ -1,4 +1,4 @@
-use Rattle.std.proofs.Common.{◌≡◌, refl, sym, subst}
+use Rattle.std.proofs.Common.{sym, subst}
 use Rattle.proxy_outside.specs.Rules.{after}
 use Rattle.session_model.specs.Kind.{Answers}
 use Rattle.session_model.proofs.Reaching.{reached_after, answered}

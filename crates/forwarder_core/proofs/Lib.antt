@@ -1,0 +1,4 @@
+pub mod Lists
+pub mod Carrying
+pub mod Standing
+pub mod Schedules

@@ -1,0 +1,12 @@
+pub mod Lists
+pub mod Keyed
+pub mod Sums
+pub mod Links
+pub mod Keeps
+pub mod Within
+pub mod Steps
+pub mod Pods
+pub mod News
+pub mod Moves
+pub mod Runs
+pub mod Turning

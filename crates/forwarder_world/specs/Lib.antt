@@ -1,0 +1,4 @@
+pub mod Link
+pub mod World
+pub mod Headline
+pub mod Turns

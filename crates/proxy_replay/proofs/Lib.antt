@@ -1,0 +1,9 @@
+pub mod Told
+pub mod HexRows
+pub mod Digits
+pub mod LowerHex
+pub mod Cuts
+pub mod ReadTo
+pub mod OneReading
+pub mod Starting
+pub mod Ends

@@ -1,0 +1,16 @@
+use Rattle.std.proofs.Common.{◌≤◌, ◌-◌, ◌+◌, length}
+use Rattle.proxy_outside.specs.Reading.{Takes}
+use Rattle.proxy_replay.specs.Inputs.{RoseBy, most_bytes}
+use Rattle.proxy_replay.proofs.input.read_pieces.Given as goal
+
+abbrev pub invariant-pieces : goal.invariant-pieces
+invariant-pieces g l = record {
+  takes : Takes (g.S.Source.origin l.fn.source) (g.S.Source.origin l.source) l.bytes;
+  waited : RoseBy l.waits (g.S.Source.origin l.fn.source).waits (g.S.Source.origin l.source).waits;
+  faults : (g.S.Source.origin l.fn.source).faults ≤ (g.S.Source.origin l.source).faults;
+  few : l.waits ≤ 1000;
+  short : length l.bytes ≤ most_bytes;
+}
+
+abbrev pub decreases-pieces : goal.decreases-pieces
+decreases-pieces g l = (most_bytes - length l.bytes) + (1000 - l.waits)

@@ -1,0 +1,10 @@
+pub mod Inputs
+pub mod Outputs
+pub mod Numbers
+pub mod HexText
+pub mod Lines
+pub mod Schedule
+pub mod Report
+pub mod Client
+pub mod Playing
+pub mod Replaying

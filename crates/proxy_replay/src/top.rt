@@ -1,0 +1,113 @@
+//! The top call: a schedule in, a report out.
+
+ghost use Rattle.std.specs.Prelude.{◌≡◌, ◌≢◌, ◌↔◌, ◌≤◌, [], ◌∷◌, List, length, IsTrue, IfOk, codes};
+ghost use Rattle.forwarder_world.specs.Headline.{Headline};
+ghost use Rattle.forwarder_world.specs.declared.event.Event.{Event as Happening};
+ghost use Rattle.proxy_outside.specs.declared.identity.ClientKey.{ClientKey as Key};
+ghost use Rattle.forwarder_world.specs.World.{World as model};
+ghost use Rattle.forwarder_core.specs.Built.{world_of};
+ghost use Rattle.forwarder_core.specs.Stands.{WorldStands};
+ghost use Rattle.tally_session.specs.Tally.{tally_kind, tally_rules};
+ghost use Rattle.tally_session.specs.declared.store.Nothing.{Nothing};
+ghost use Rattle.proxy_replay.specs.Client.{client_params, client_key};
+ghost use Rattle.proxy_replay.specs.Inputs.{most_bytes};
+ghost use Rattle.proxy_replay.specs.Replaying.{report_by, IsAnsweredBy, RunCase, Replays, Completes};
+
+use crate::client;
+use crate::input::{Input, read_all};
+use crate::output::write_all;
+use crate::play::{Played, play};
+use crate::report::report_of;
+use crate::status::Status;
+use forwarder_core::World;
+use pgw_frames::{Bytes, NoMemory, Text};
+use proxy_outside::{Sink, Source};
+use session_model::Session;
+use std::alloc::Global;
+use tally_session::TallySession;
+
+/// What a schedule is answered by.
+#[derive(Debug, Drop)]
+pub(crate) enum Answer {
+    Report(Bytes),
+    BadLine(u64),
+}
+
+/// Whether the words ask for a run.
+fn is_run(words: &[Text]) -> bool
+    ensures { IsTrue result ↔ (words.now ≡ codes "run" ∷ []) }
+{
+    match words {
+        [word] => word.as_str() == "run",
+        _ => false,
+    }
+}
+
+/// The report of a World.
+#[tactic(auto, unfolding(crate::specs::Replaying::report_by))]
+fn report_for<S: Session>(alloc: Global, world: &World<S>) -> Result<Bytes, NoMemory>
+    ensures { IfOk result (λ b. (key : Key) (d : model S.State S.Store.State S.Store.Command) → WorldStands S.state S.Store.stands_for key world.now d → b ≡ report_by d) }
+{
+    let report = report_of(alloc, world.phase(), &world.counts(), world.received())?;
+    Ok(report)
+}
+
+/// What a schedule is answered by over a tally session.
+fn answer_to(alloc: Global, text: &[u8]) -> Result<Answer, NoMemory>
+    requires { length text.now ≤ most_bytes }
+    ensures { IfOk result (IsAnsweredBy text.now) }
+{
+    let params = client::params(alloc)?;
+    let played = play::<TallySession>(alloc, text, params, client::key())?;
+    match played {
+        Played::BadLine(n) => Ok(Answer::BadLine(n)),
+        Played::Whole(world) => {
+            let report = report_for(alloc, &world)?;
+            Ok(Answer::Report(report))
+        }
+    }
+}
+
+/// Answers a schedule to a sink.
+fn run<K: Sink>(alloc: Global, text: &[u8], report: &mut K) -> Status
+    requires { length text.now ≤ most_bytes }
+    ensures { RunCase text.now (K.target report.old) (K.target report.new) result }
+{
+    match answer_to(alloc, text) {
+        Err(_) => Status::NoMemory,
+        Ok(Answer::BadLine(n)) => Status::BadLine(n),
+        Ok(Answer::Report(text)) => {
+            if write_all(report, text.as_slice()) {
+                return Status::Done;
+            }
+            Status::WriteFault
+        }
+    }
+}
+
+/// Reads a schedule to its end, and writes the report of its World. The one word is `run`.
+pub fn replay<S: Source, K: Sink>(
+    alloc: Global,
+    words: &[Text],
+    schedule: &mut S,
+    report: &mut K,
+) -> Status
+    ensures causes { Replays words.now (S.origin schedule.old) (S.origin schedule.new) (K.target report.old) (K.target report.new) result }
+    ensures usage { (result ≡ Status.Usage) ↔ (words.now ≢ codes "run" ∷ []) }
+    ensures complete { Completes words.now (S.origin schedule.old) (S.origin schedule.new) (K.target report.old) (K.target report.new) result }
+    ensures headline { (es : List (Happening Nothing)) → Headline tally_kind tally_rules client_key client_params (world_of tally_kind tally_rules client_key client_params es) }
+{
+    if !is_run(words) {
+        return Status::Usage;
+    }
+    match read_all(alloc, schedule) {
+        Input::All(text) => run(alloc, text.as_slice(), report),
+        Input::ReadFault => Status::ReadFault,
+        Input::TooLong => Status::TooLong,
+        Input::Late(n) => Status::Late(n),
+        Input::NoMemory => Status::NoMemory,
+    }
+}
+
+#[cfg(test)]
+mod tests;

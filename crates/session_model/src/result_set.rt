@@ -1,0 +1,85 @@
+//! The messages that a reply of rows is made of.
+
+ghost use Rattle.std.specs.Prelude.{◌≡◌, ◌<◌, ◌^◌, ◌++◌, length, map, IfOk, OnOk};
+ghost use Rattle.std.specs.List.{AllByRecursion};
+ghost use Rattle.session_model.specs.Texts.{column, value};
+ghost use Rattle.session_model.specs.Texts as text;
+
+use pgw_frames::{Bytes, Frame, NoMemory};
+use std::alloc::Global;
+
+/// A type's number and its size in bytes, as RowDescription has them.
+#[derive(Clone, Copy)]
+pub(crate) struct ColumnType {
+    pub number: u32,
+    pub size: u16,
+}
+
+pub(crate) const BOOLEAN: ColumnType = ColumnType {
+    number: 16,
+    size: 1,
+};
+
+/// Its size is -1: texts have no one size.
+pub(crate) const TEXT: ColumnType = ColumnType {
+    number: 25,
+    size: 0xffff,
+};
+
+/// Adds what RowDescription says of a column that is no table's.
+pub(crate) fn add_column(body: &mut Vec<u8>, name: &str, of: ColumnType) -> Result<(), NoMemory>
+    ensures { OnOk result (body.new.items ≡ body.old.items ++ column name.now of.number of.size) }
+{
+    body.extend_from_slice(name.as_bytes())?;
+    body.extend_from_slice(b"\0\0\0\0\0\0\0")?;
+    body.extend_from_slice(&of.number.to_be_bytes())?;
+    body.extend_from_slice(&of.size.to_be_bytes())?;
+    body.extend_from_slice(b"\xff\xff\xff\xff\0\0")?;
+    Ok(())
+}
+
+/// Adds a value with its length.
+fn add_value(body: &mut Vec<u8>, v: &[u8]) -> Result<(), NoMemory>
+    requires { length v.now < 2 ^ 31 }
+    ensures { OnOk result (body.new.items ≡ body.old.items ++ value v.now) }
+{
+    body.extend_from_slice(&(v.len() as u32).to_be_bytes())?;
+    body.extend_from_slice(v)?;
+    Ok(())
+}
+
+/// A DataRow.
+pub(crate) fn row(alloc: Global, values: &[&[u8]]) -> Result<Frame, NoMemory>
+    requires count { length values.now < 2 ^ 15 }
+    requires sizes { AllByRecursion (λ v. length v.now < 2 ^ 31) values.now }
+    ensures { IfOk result (λ f. f ≡ text.row (map (λ v. v.now) values.now)) }
+{
+    let mut body = Vec::from_slice(alloc, &(values.len() as u16).to_be_bytes())?;
+    for v in values {
+        add_value(&mut body, v)?;
+    }
+    Ok(Frame {
+        tag: b'D',
+        body: Bytes::from_vec(body),
+    })
+}
+
+/// A CommandComplete. The tag ends in its zero byte.
+pub(crate) fn complete(alloc: Global, tag: &[u8]) -> Result<Frame, NoMemory>
+    ensures { IfOk result (λ f. f ≡ record { tag = 67; body = tag.now }) }
+{
+    Ok(Frame {
+        tag: b'C',
+        body: Bytes::of(alloc, tag)?,
+    })
+}
+
+/// A ReadyForQuery.
+pub fn ready(alloc: Global, status: u8) -> Result<Frame, NoMemory>
+    ensures { IfOk result (λ f. f ≡ text.ready status) }
+{
+    Ok(Frame {
+        tag: b'Z',
+        body: Bytes::of(alloc, &[status])?,
+    })
+}

@@ -1,0 +1,134 @@
+//! The texts of a transfer, and the replies to them.
+
+ghost use Rattle.std.specs.Prelude.{◌≡◌, ◌≤◌, length, string_bytes, IfOk};
+ghost use Rattle.session_model.specs.Texts.{key_digits, dump_len};
+ghost use Rattle.session_model.specs.Texts as text;
+
+use crate::result_set::{BOOLEAN, TEXT, add_column, complete, ready, row};
+use crate::transfer::{Dump, TransferKey};
+use base64::engine::general_purpose::STANDARD;
+use pgw_frames::{Bytes, Frame, Frames, MOST_BODY, NoMemory, Text};
+use std::alloc::Global;
+
+/// A key's 32 digits, as a transfer Query and its reply spell them.
+fn key_text(alloc: Global, k: &TransferKey) -> Result<String, NoMemory>
+    ensures { IfOk result (λ t. string_bytes t ≡ key_digits k.now) }
+{
+    let TransferKey { high, low } = *k;
+    Ok(format!(in alloc; "{high:016x}{low:016x}")?)
+}
+
+/// The text of the Query that asks for a session's state.
+pub fn transfer_text(alloc: Global, k: &TransferKey) -> Result<Text, NoMemory>
+    ensures { IfOk result (λ t. t ≡ text.transfer_text k.now) }
+{
+    let mut words = String::from_str(alloc, "SHOW TRANSFER STATE WITH '")?;
+    words.push_str(key_text(alloc, k)?.as_str())?;
+    words.push_str("'")?;
+    Ok(Text::from_string(words))
+}
+
+/// The text of the Query that gives a session the state of this blob.
+pub fn restore_text(alloc: Global, blob: &[u8]) -> Result<Text, NoMemory>
+    ensures { IfOk result (λ t. t ≡ text.restore_text blob.now) }
+{
+    let mut words = String::from_str(alloc, "SELECT crdb_internal.deserialize_session(decode('")?;
+    STANDARD.encode_string(blob, &mut words)?;
+    words.push_str("','base64'))")?;
+    Ok(Text::from_string(words))
+}
+
+/// The columns of the reply to a transfer Query.
+#[tactic(auto, unfolding(crate::specs::Texts::transfer_columns))]
+fn transfer_columns(alloc: Global) -> Result<Frame, NoMemory>
+    ensures { IfOk result (λ f. f ≡ text.transfer_columns) }
+{
+    let mut body = Vec::from_slice(alloc, b"\0\x04")?;
+    add_column(&mut body, "error", TEXT)?;
+    add_column(&mut body, "session_state_base64", TEXT)?;
+    add_column(&mut body, "session_revival_token_base64", TEXT)?;
+    add_column(&mut body, "transfer_key", TEXT)?;
+    Ok(Frame {
+        tag: b'T',
+        body: Bytes::from_vec(body),
+    })
+}
+
+/// The row of the reply to a transfer Query: what was dumped, and the digits of the key.
+#[tactic(auto, unfolding(crate::specs::Texts::digits_row))]
+fn digits_row(alloc: Global, digits: &[u8], d: &Dump, token: &str) -> Result<Frame, NoMemory>
+    requires digits { length digits.now ≤ MOST_BODY }
+    requires dump { dump_len d.now ≤ MOST_BODY }
+    requires token { length token.now ≤ MOST_BODY }
+    ensures { IfOk result (λ f. f ≡ text.digits_row digits.now d.now token.now) }
+{
+    match d {
+        Dump::Blob(blob) => {
+            let state = STANDARD.encode(alloc, blob.as_slice())?;
+            row(alloc, &[&[], state.as_bytes(), token.as_bytes(), digits])
+        }
+        Dump::Not(reason) => row(alloc, &[reason.as_str().as_bytes(), &[], &[], digits]),
+    }
+}
+
+/// The reply to a transfer Query whose key has these digits.
+#[tactic(auto, unfolding(crate::specs::Texts::transfer_tag))]
+pub fn digits_reply(
+    alloc: Global,
+    digits: &[u8],
+    d: &Dump,
+    token: &str,
+    status: u8,
+) -> Result<Frames, NoMemory>
+    requires digits { length digits.now ≤ MOST_BODY }
+    requires dump { dump_len d.now ≤ MOST_BODY }
+    requires token { length token.now ≤ MOST_BODY }
+    ensures { IfOk result (λ fs. fs ≡ text.digits_reply digits.now d.now token.now status) }
+{
+    let columns = transfer_columns(alloc)?;
+    let row = digits_row(alloc, digits, d, token)?;
+    let tag = complete(alloc, b"SHOW TRANSFER STATE 1\0")?;
+    let ready = ready(alloc, status)?;
+    Ok(Frames::from_vec(vec![in alloc; columns, row, tag, ready]?))
+}
+
+/// The reply to a transfer Query.
+pub fn transfer_reply(
+    alloc: Global,
+    k: &TransferKey,
+    d: &Dump,
+    token: &str,
+    status: u8,
+) -> Result<Frames, NoMemory>
+    requires dump { dump_len d.now ≤ MOST_BODY }
+    requires token { length token.now ≤ MOST_BODY }
+    ensures { IfOk result (λ fs. fs ≡ text.transfer_reply k.now d.now token.now status) }
+{
+    let digits = key_text(alloc, k)?;
+    digits_reply(alloc, digits.as_bytes(), d, token, status)
+}
+
+/// The column of the reply to a restore Query.
+#[tactic(auto, unfolding(crate::specs::Texts::restore_columns))]
+fn restore_columns(alloc: Global) -> Result<Frame, NoMemory>
+    ensures { IfOk result (λ f. f ≡ text.restore_columns) }
+{
+    let mut body = Vec::from_slice(alloc, b"\0\x01")?;
+    add_column(&mut body, "crdb_internal.deserialize_session", BOOLEAN)?;
+    Ok(Frame {
+        tag: b'T',
+        body: Bytes::from_vec(body),
+    })
+}
+
+/// The reply to a restore Query.
+#[tactic(auto, unfolding(crate::specs::Texts::restore_row, crate::specs::Texts::restore_tag))]
+pub fn restore_reply(alloc: Global) -> Result<Frames, NoMemory>
+    ensures { IfOk result (λ fs. fs ≡ text.restore_reply) }
+{
+    let columns = restore_columns(alloc)?;
+    let row = row(alloc, &[b"t"])?;
+    let tag = complete(alloc, b"SELECT 1\0")?;
+    let ready = ready(alloc, b'I')?;
+    Ok(Frames::from_vec(vec![in alloc; columns, row, tag, ready]?))
+}

@@ -1,0 +1,5 @@
+pub mod Reading
+pub mod Replies
+pub mod Tally
+pub mod RoundTrip
+pub mod Keeps

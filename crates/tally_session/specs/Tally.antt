@@ -1,0 +1,103 @@
+-- The session that counts its queries. It keeps no parameters, and so has no token.
+use Rattle.std.specs.Prelude.{Bool, true, false, ◌==◌, ◌||◌, ℕ, ◌+◌, ◌%◌, ◌^◌, ◌<◌, List, [], ◌∷◌, ◌++◌, Option, Some, None, if◌then◌else◌, codes}
+use Rattle.std.specs.Int.{w64, to_be_bytes, from_be_bytes}
+use Rattle.pgw_frames.specs.declared.frame.Frame.{Frame}
+use Rattle.proxy_outside.specs.Rules.{Rules}
+use Rattle.session_model.specs.Kind.{Kind}
+use Rattle.session_model.specs.Texts.{ready, digits_reply, restore_reply}
+use Rattle.session_model.specs.declared.transfer.Dump.{Dump}
+use Rattle.session_model.specs.declared.transfer.Dump.TheVariants.{Blob, Not}
+use Rattle.tally_session.specs.Reading.{begins_copy, restore_of, transfer_of}
+use Rattle.tally_session.specs.Replies.{idle_status, auth_ok, key_zero, complete_tally, complete_copy, copy_in, copy_failed, copy_ended}
+use Rattle.tally_session.specs.declared.store.Nothing.{Nothing}
+
+pub record Tally : Type 0 where
+  pub count : ℕ
+  pub copy : Option ℕ  -- in a copy, how many CopyData came
+
+abbrev pub next_tally : ℕ → ℕ
+next_tally n = (n + 1) % 2 ^ 64
+
+abbrev pub Told : Type 0
+Told = Tally × List Frame
+
+abbrev pub idle : ℕ → Tally
+idle n = record { count = n; copy = None }
+
+-- a Query that is none of the others
+abbrev pub counts_one : ℕ → Told
+counts_one n = (idle (next_tally n), complete_tally (next_tally n) ∷ ready idle_status ∷ [])
+
+abbrev pub by_copy : ℕ → Bool → Told
+by_copy n copy = if copy then (record { count = n; copy = Some 0 }, copy_in ∷ []) else counts_one n
+
+abbrev pub by_restore : ℕ → Bool → Option (List ℕ) → Told
+by_restore n copy (Some b) = (idle (from_be_bytes w64 b % 2 ^ 64), restore_reply)
+by_restore n copy None = by_copy n copy
+
+abbrev pub blob_of : ℕ → Dump
+blob_of n = Blob (to_be_bytes w64 n)
+
+abbrev pub by_transfer : ℕ → Bool → Option (List ℕ) → Option (List ℕ) → Told
+by_transfer n copy restore (Some digits) = (idle n, digits_reply digits (blob_of n) [] idle_status)
+by_transfer n copy restore None = by_restore n copy restore
+
+abbrev pub by_query : ℕ → List ℕ → Told
+by_query n body = by_transfer n (begins_copy body) (restore_of body) (transfer_of body)
+
+-- outside a copy a Query (81) is answered and a Sync (83) gets its ReadyForQuery, and nothing else says anything
+abbrev pub outside : ℕ → Frame → Told
+outside n f = if f.tag == 81 then by_query n f.body else if f.tag == 83 then (idle n, ready idle_status ∷ []) else (idle n, [])
+
+abbrev pub with_first : List Frame → Told → Told
+with_first fs r = (r.0, fs ++ r.1)
+
+-- In a copy to which c messages came, CopyData (100) is counted, CopyDone (99) and CopyFail (102) end it, and Sync
+-- and Flush (72) are ignored. Any other message ends it with an error, and is then taken as outside a copy.
+abbrev pub inside : ℕ → ℕ → Frame → Told
+inside n c f =
+    if f.tag == 100 then (record { count = n; copy = Some ((c + 1) % 2 ^ 64) }, [])
+    else if f.tag == 99 then (idle n, complete_copy c ∷ ready idle_status ∷ [])
+    else if f.tag == 102 then (idle n, copy_failed ∷ ready idle_status ∷ [])
+    else if (f.tag == 83) || (f.tag == 72) then (record { count = n; copy = Some c }, [])
+    else with_first (copy_ended ∷ ready idle_status ∷ []) (outside n f)
+
+abbrev pub tells_by : ℕ → Frame → Option ℕ → Told
+tells_by n f None = outside n f
+tells_by n f (Some c) = inside n c f
+
+abbrev pub dumps_by : ℕ → Option ℕ → Dump
+dumps_by n None = blob_of n
+dumps_by n (Some c) = Not (codes "session is in a copy")
+
+abbrev pub quiet_by : Option ℕ → Bool
+quiet_by None = true
+quiet_by (Some c) = false
+
+abbrev pub due_by : Option ℕ → ℕ
+due_by None = 0
+due_by (Some c) = 1
+
+unfoldable pub tally_kind : Kind Tally Nothing Nothing
+tally_kind = record {
+  begins = λ p. (idle 0, auth_ok ∷ key_zero ∷ ready idle_status ∷ []);
+  asks = λ s f. None;
+  tells = λ s f a. tells_by s.count f s.copy;
+  dumps = λ s. dumps_by s.count s.copy;
+  quiet = λ s. quiet_by s.copy;
+  due = λ s. due_by s.copy;
+  status = λ s. idle_status;
+  token = λ s. [];
+}
+
+-- the store has one state
+abbrev pub tally_rules : Rules (Unit {0}) Nothing Nothing
+tally_rules = record { first = tt; next = λ s c. s; reply = λ s c. c }
+
+-- numbers stay within 64 bits
+abbrev pub CopyKept : Option ℕ → Type 0
+CopyKept None = Unit {0}
+CopyKept (Some c) = c < 2 ^ 64
+
+abbrev pub TallyKept : Tally → Type 0
+TallyKept s = (s.count < 2 ^ 64) × CopyKept s.copy
