@@ -1,0 +1,6 @@
+-- What holds at every error.
+use Rattle.std.specs.Prelude.{Result, Ok, Err, OnErr}
+
+pub on_err : {A E P : Type 0} (r : Result A E) → P → OnErr r P
+on_err (Ok x) h = tt
+on_err (Err e) h = h
