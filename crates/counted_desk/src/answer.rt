@@ -1,0 +1,23 @@
+//! What the calls of a desk answer.
+
+/// Why a call was not taken. Nothing was added to the journal.
+#[derive(Clone, Copy, Debug, PartialEq, Eq, Drop)]
+pub enum CallFault {
+    NoMemory,
+    /// The journal has all the entries that it takes; the number is the desk's limit.
+    JournalFull(u32),
+}
+
+/// A call that was taken: its place in the desk's history, counted from 0, and the machine's reply.
+#[derive(Drop)]
+pub struct Receipt<R> {
+    pub place: u64,
+    pub reply: R,
+}
+
+/// What is left of a desk: machine and journal, or nothing, where a call still has them out.
+#[derive(Drop)]
+pub enum Closed<M, J> {
+    Whole(M, J),
+    Held,
+}

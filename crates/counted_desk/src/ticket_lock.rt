@@ -1,0 +1,188 @@
+//! The ticket lock of a desk: two words, and the one value behind them.
+ghost use Rattle.std.specs.Prelude.{◌≡◌, ℕ, ◌<◌, [], ◌∷◌, ◌≤◌, Some, None, IfOk, IfSome};
+ghost use Rattle.counted_desk.specs.History.{IsLegal, Begins, IsOwnOf, log_of};
+ghost use Rattle.counted_desk.specs.Rule.{Took, HasTurn, IsDue, IsAtEnd, drawn, at_turn, after_turn, copied, joined, newcomer};
+ghost use Rattle.counted_desk.specs.declared.entry.Role.TheVariants.{Idle, Waiting, Turn};
+
+use crate::entry::View;
+use crate::logged::Logged;
+use crate::rule::{Compare, CopySeat, DeskRule, Draw, JoinSeats, Leave, Look};
+use atomic_table::{Refused, Table};
+use pgw_frames::NoMemory;
+use proxy_outside::Machine;
+use std::alloc::Global;
+use std::sync::Wait;
+use std::thread;
+
+// The word with the ticket that is drawn next.
+const TICKET: usize = 0;
+
+// The word with the ticket whose turn it is.
+const SERVING: usize = 1;
+
+// How often a waiting thread lets others run before it sleeps.
+const YIELDS: u32 = 16;
+
+pub type LockSeat<M> = atomic_table::Seat<
+    Option<Logged<M, <M as Machine>::Command>>,
+    View<<M as Machine>::Command, <M as Machine>::Reply>,
+>;
+
+pub type LockTable<M> = Table<
+    Option<Logged<M, <M as Machine>::Command>>,
+    View<<M as Machine>::Command, <M as Machine>::Reply>,
+    u32,
+    DeskRule<M>,
+    Global,
+>;
+
+#[derive(Drop)]
+pub struct TicketLock<M: Machine> {
+    pub table: LockTable<M>,
+    pub most: u32,
+    ghost sized: { (table.shared.table_id.words ≡ 2) × (table.shared.table_id.slots ≡ 1) },
+    ghost keyed: { table.shared.key ≡ most },
+}
+
+impl<M: Machine> TicketLock<M> {
+    /// A lock with no ticket drawn, over a machine at its opening.
+    pub fn open(alloc: Global, most: u32) -> Result<(TicketLock<M>, LockSeat<M>), NoMemory>
+        ensures most { IfOk result (λ r. r.0.most ≡ most) }
+        ensures here { IfOk result (λ r. r.1.table_id ≡ r.0.table.shared.table_id) }
+        ensures seat { IfOk result (λ r. r.1.me ≡ (newcomer most [], [])) }
+    {
+        let machine = M::opening(alloc)?;
+        let Ok(mut slots) = Vec::with_capacity(alloc, 1) else {
+            return Err(NoMemory);
+        };
+        slots.push_reserved(Some(Logged {
+            machine,
+            journal: Vec::new(alloc),
+        }));
+        match Table::new(alloc, &[0, 0], slots, &most) {
+            Ok((table, seat)) => Ok((TicketLock { table, most }, seat)),
+            Err(Refused { slots: _ }) => Err(NoMemory),
+        }
+    }
+
+    // A ticket that no other call has.
+    fn draw<R: Wait>(&self, rt: &R, seat: &mut LockSeat<M>) -> u64
+        requires here { seat.old.table_id ≡ self.now.table.shared.table_id }
+        requires idle { seat.old.me.0.role ≡ Idle }
+        ensures here { seat.new.table_id ≡ seat.old.table_id }
+        ensures drawn { seat.new.me ≡ (drawn seat.old.me.0 result, seat.old.me.1) }
+    {
+        let shared = &self.table.shared;
+        let mut next = shared.peek(TICKET);
+        for _ in rt.forever() {
+            if next < u64::MAX {
+                let found = shared.compare_exchange::<Draw<M>>(seat, TICKET, next, next + 1);
+                if found == next {
+                    return next;
+                }
+                next = found;
+            } else {
+                next = shared.peek(TICKET);
+            }
+        }
+        unreachable!()
+    }
+
+    // Goes on once the ticket is served.
+    fn wait_turn<R: Wait>(&self, rt: &R, seat: &mut LockSeat<M>, ticket: u64)
+        requires here { seat.old.table_id ≡ self.now.table.shared.table_id }
+        requires waiting { seat.old.me.0.role ≡ Waiting ticket }
+        ensures here { seat.new.table_id ≡ seat.old.table_id }
+        ensures took { HasTurn M.stands_for M.rules ticket seat.old.me seat.new.me }
+    {
+        let shared = &self.table.shared;
+        let mut yields = YIELDS;
+        for _ in rt.forever() {
+            let served = shared.load::<Look<M>>(seat, SERVING);
+            if served == ticket {
+                return;
+            }
+            if yields > 0 {
+                yields -= 1;
+                thread::yield_now();
+            } else {
+                shared.park(rt, SERVING, (served % (1 << 32)) as u32);
+            }
+        }
+        unreachable!()
+    }
+
+    /// Draws a ticket, waits for its turn and takes the value out.
+    pub fn enter<R: Wait>(&self, rt: &R, seat: &mut LockSeat<M>) -> (u64, Logged<M, M::Command>)
+        requires here { seat.old.table_id ≡ self.now.table.shared.table_id }
+        requires idle { seat.old.me.0.role ≡ Idle }
+        requires free { seat.old.me.1 ≡ [] }
+        ensures here { seat.new.table_id ≡ seat.old.table_id }
+        ensures took { Took M.stands_for M.rules result.0 seat.old.me.0 result.1 }
+        ensures view { seat.new.me ≡ (at_turn seat.old.me.0 result.0 (log_of M.rules result.1.journal.items), (0, None) ∷ []) }
+    {
+        let ticket = self.draw(rt, seat);
+        self.wait_turn(rt, seat, ticket);
+        let value = self.table.shared.exchange(seat, 0, None);
+        (ticket, value.unwrap())
+    }
+
+    /// Gives the value back and serves the next ticket. It wakes others only where one was drawn.
+    pub fn leave(&self, seat: &mut LockSeat<M>, logged: Logged<M, M::Command>)
+        requires here { seat.old.table_id ≡ self.now.table.shared.table_id }
+        requires out { seat.old.me.1 ≡ (0, None) ∷ [] }
+        requires due { (n : ℕ) × (added : _) × IsDue M.stands_for M.rules n seat.old.me.0 logged added }
+        ensures here { seat.new.table_id ≡ seat.old.table_id }
+        ensures view { seat.new.me ≡ (after_turn seat.old.me.0 (log_of M.rules logged.journal.items), []) }
+        ensures own { IsOwnOf seat.new.me.0.own seat.new.me.0.seen }
+    {
+        let shared = &self.table.shared;
+        let out = shared.exchange(seat, 0, Some(logged));
+        let None = out else { unreachable!() };
+        let served = shared.fetch_add::<Leave<M>>(seat, SERVING, 1);
+        if shared.peek(TICKET) > served.wrapping_add(1) {
+            shared.wake_all(SERVING);
+        }
+    }
+
+    /// A second seat, which has seen what the first one has.
+    pub fn split(&self, seat: &mut LockSeat<M>) -> LockSeat<M>
+        requires here { seat.old.table_id ≡ self.now.table.shared.table_id }
+        requires idle { seat.old.me.0.role ≡ Idle }
+        ensures kept { (seat.new.table_id ≡ seat.old.table_id) × (seat.new.me ≡ seat.old.me) }
+        ensures there { result.table_id ≡ seat.old.table_id }
+        ensures new { result.me ≡ (copied seat.old.me.0, []) }
+    {
+        self.table.shared.split_seat::<CopySeat>(seat)
+    }
+
+    /// One seat of two. The load behind it tells that the longer history begins with the shorter.
+    pub fn join(&self, into: &mut LockSeat<M>, other: LockSeat<M>)
+        requires here { into.old.table_id ≡ self.now.table.shared.table_id }
+        requires same { other.table_id ≡ self.now.table.shared.table_id }
+        requires idle { (into.old.me.0.role ≡ Idle) × (other.me.0.role ≡ Idle) }
+        requires free { (into.old.me.1 ≡ []) × (other.me.1 ≡ []) }
+        ensures here { into.new.table_id ≡ into.old.table_id }
+        ensures view { into.new.me ≡ (joined into.old.me.0 other.me.0, []) }
+        ensures longer { Begins into.new.me.0.met into.new.me.0.seen }
+        ensures own { IsOwnOf into.new.me.0.own into.new.me.0.seen }
+    {
+        let shared = &self.table.shared;
+        shared.join_seat::<JoinSeats>(into, other);
+        shared.load::<Compare<M>>(into, TICKET);
+    }
+
+    /// The value. Nothing comes back where a call that never returned has it out.
+    pub fn shut(self, seat: LockSeat<M>) -> Option<Logged<M, M::Command>>
+        requires { seat.table_id ≡ self.table.shared.table_id }
+        ensures { IfSome result (IsAtEnd M.stands_for M.rules seat.me.0 self.most) }
+    {
+        let TicketLock { table, most: _ } = self;
+        let mut closed = table.close_with(seat);
+        let drawn = closed.word(TICKET);
+        let served = closed.word(SERVING);
+        let value = closed.take(0);
+        closed.free();
+        if drawn == served { value } else { None }
+    }
+}
