@@ -4,3 +4,4 @@ pub mod Writing
 pub mod Supply
 pub mod MemSource
 pub mod MemSink
+pub mod Addr

@@ -7,3 +7,7 @@ pub struct ClientKey {
     pub process: u32,
     pub secret: u32,
 }
+
+/// The number of a tenant.
+#[derive(Clone, Copy, Debug, PartialEq, Eq)]
+pub struct TenantId(pub u32);

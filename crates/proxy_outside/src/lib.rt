@@ -5,6 +5,7 @@
 //! a socket or waits.
 #![tactic(auto)]
 
+mod addr;
 mod identity;
 mod machine;
 mod mem_sink;
@@ -14,7 +15,8 @@ mod sink;
 mod source;
 mod writer_sink;
 
-pub use identity::ClientKey;
+pub use addr::Addr;
+pub use identity::{ClientKey, TenantId};
 pub use machine::Machine;
 pub use mem_sink::MemSink;
 pub use mem_source::MemSource;

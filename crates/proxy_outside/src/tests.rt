@@ -45,3 +45,17 @@ fn a_reader_and_a_writer(rt: HostRuntime) -> Result<(), Fail> {
     assert_eq!(rt; k.write(b"abc"), Gave::Took(3));
     Ok(())
 }
+
+#[test]
+fn addresses_that_map_ipv4(rt: HostRuntime) {
+    // RFC 4291, 2.5.5.2: ::ffff:192.0.2.1; and three beside it.
+    let rows = [
+        (0xffff_c000_0201, Addr::V4(0xc000_0201)),
+        (0xc000_0201, Addr::V6(0xc000_0201)),
+        (0xfffe_c000_0201, Addr::V6(0xfffe_c000_0201)),
+        (0x1_ffff_c000_0201, Addr::V6(0x1_ffff_c000_0201)),
+    ];
+    for (bits, want) in rows {
+        assert_eq!(rt; Addr::from_v6(bits), want, "at {bits}");
+    }
+}

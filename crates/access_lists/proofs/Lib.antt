@@ -1,0 +1,6 @@
+pub mod Barring
+pub mod Places
+pub mod ColonHex
+pub mod Slashes
+pub mod Readings
+pub mod OneReading

@@ -1,0 +1,192 @@
+use super::*;
+use pgw_frames::Text;
+use proxy_outside::{Addr, TenantId};
+use std::alloc::Global;
+use std::test::*;
+
+/// 10.1.2.3
+const CLIENT: Addr = Addr::V4(0x0a01_0203);
+
+#[test]
+fn addresses_of_the_standard(rt: HostRuntime) {
+    // RFC 4291, 2.2: each address in full and with `::`.
+    let rows = [
+        (
+            "2001:DB8:0:0:8:800:200C:417A",
+            "2001:DB8::8:800:200C:417A",
+            0x2001_0db8_0000_0000_0008_0800_200c_417a,
+        ),
+        (
+            "FF01:0:0:0:0:0:0:101",
+            "FF01::101",
+            0xff01_0000_0000_0000_0000_0000_0000_0101,
+        ),
+        ("0:0:0:0:0:0:0:1", "::1", 1),
+        ("0:0:0:0:0:0:0:0", "::", 0),
+    ];
+    for (full, short, bits) in rows {
+        assert_eq!(rt; read_addr(full), Ok(Addr::V6(bits)), "at {full}");
+        assert_eq!(rt; read_addr(short), Ok(Addr::V6(bits)), "at {short}");
+    }
+    assert_eq!(rt; read_addr("10.1.2.3"), Ok(CLIENT));
+    assert_eq!(rt; read_addr("255.255.255.255"), Ok(Addr::V4(0xffff_ffff)));
+    assert_eq!(rt; read_addr("::ffff:a01:203"), Ok(Addr::V6(0xffff_0a01_0203)));
+    assert_eq!(rt; read_addr("1:2:3:4:5:6:7::"), read_addr("1:2:3:4:5:6:7:0"));
+}
+
+#[test]
+fn texts_that_are_no_address(rt: HostRuntime) {
+    let rows = [
+        "",
+        "10.0.0",
+        "10.0.0.0.0",
+        "10.0.0.01",
+        "10.0..1",
+        "256.0.0.1",
+        "10.0.0.1 ",
+        "0x0a.0.0.1",
+        ":",
+        ":::",
+        "2001:db8:::1",
+        "1::2::3",
+        "1:2:3:4:5:6:7",
+        "1:2:3:4:5:6:7:8:9",
+        "1:2:3:4:5:6:7::8",
+        "12345::",
+        "g::",
+        "::ffff:10.1.2.3",
+        "[::1]",
+        "fe80::1%1",
+    ];
+    for text in rows {
+        assert_eq!(rt; read_addr(text), Err(NetFault::BadAddress), "at {text}");
+    }
+}
+
+#[test]
+fn networks(rt: HostRuntime) {
+    let rows = [
+        ("10.0.0.0/8", "10.255.255.255", "11.0.0.0"),
+        ("10.255.0.1/8", "10.1.2.3", "9.255.255.255"),
+        ("10.1.2.3", "10.1.2.3", "10.1.2.2"),
+        ("10.1.2.2/31", "10.1.2.3", "10.1.2.4"),
+        ("0.0.0.0/0", "255.255.255.255", "::"),
+        ("::/0", "ffff::", "0.0.0.0"),
+        ("2001:db8::/32", "2001:db8::1", "2001:db9::"),
+        ("::ffff:0:0/96", "::ffff:a01:203", "10.1.2.3"),
+        ("::1/128", "::1", "::"),
+    ];
+    for (text, inside, outside) in rows {
+        let (Ok(net), Ok(inside), Ok(outside)) = (
+            read_net(text),
+            read_addr(inside),
+            read_addr(outside),
+        ) else {
+            panic!(rt; "at {text}");
+        };
+        assert!(rt; net.has(&inside), "at {text}");
+        assert!(rt; !net.has(&outside), "at {text}");
+    }
+}
+
+#[test]
+fn texts_that_are_no_network(rt: HostRuntime) {
+    let rows = [
+        ("2001:db8:::1", NetFault::BadAddress),
+        ("10.0.0.01", NetFault::BadAddress),
+        ("10.0.0.01/33", NetFault::BadAddress),
+        ("/8", NetFault::BadAddress),
+        ("10.0.0.0/33", NetFault::BadPrefix),
+        ("::/129", NetFault::BadPrefix),
+        ("::/256", NetFault::BadPrefix),
+        ("10.0.0.0/", NetFault::BadPrefix),
+        ("10.0.0.0/08", NetFault::BadPrefix),
+        ("10.0.0.0/+8", NetFault::BadPrefix),
+        ("10.0.0.0/8/8", NetFault::BadPrefix),
+        ("10.0.0.0/255.0.0.0", NetFault::BadPrefix),
+    ];
+    for (text, fault) in rows {
+        assert_eq!(rt; read_net(text), Err(fault), "at {text}");
+    }
+}
+
+#[test]
+fn a_prefix_past_the_end(rt: HostRuntime) {
+    let net = Net {
+        addr: CLIENT,
+        prefix: 255,
+    };
+    assert!(rt; net.has(&CLIENT));
+    assert!(rt; !net.has(&Addr::V4(0x0a01_0202)));
+}
+
+fn deny(alloc: Global, who: Who, until: Option<u64>) -> Result<Deny, Fail> {
+    Ok(Deny {
+        who,
+        until,
+        reason: Text::of(alloc, "abuse")?,
+    })
+}
+
+/// 10.0.0.0/8
+const TEN: Net = Net {
+    addr: Addr::V4(0x0a00_0000),
+    prefix: 8,
+};
+
+/// 192.168.0.0/16
+const HOME: Net = Net {
+    addr: Addr::V4(0xc0a8_0000),
+    prefix: 16,
+};
+
+#[test]
+fn an_entry_and_an_allow_list(rt: HostRuntime) -> Result<(), Fail> {
+    let alloc = rt.alloc();
+    let mut lists = Lists::new(alloc);
+    assert_eq!(rt; lists.judge(&CLIENT, TenantId(7), 0), Verdict::Pass);
+    lists.add_deny(deny(alloc, Who::Network(TEN), Some(1_000))?)?;
+    assert_eq!(rt; lists.judge(&CLIENT, TenantId(7), 999), Verdict::Denied(0));
+    assert_eq!(rt; lists.judge(&CLIENT, TenantId(7), 1_000), Verdict::Pass);
+    lists.add_allow(TenantId(7), Some(HOME))?;
+    assert_eq!(rt; lists.judge(&CLIENT, TenantId(7), 999), Verdict::Denied(0));
+    assert_eq!(rt;
+        lists.judge(&CLIENT, TenantId(7), 1_000),
+        Verdict::NotAllowed
+    );
+    assert_eq!(rt; lists.judge(&CLIENT, TenantId(8), 1_000), Verdict::Pass);
+    lists.add_allow(TenantId(7), Some(TEN))?;
+    assert_eq!(rt; lists.judge(&CLIENT, TenantId(7), 1_000), Verdict::Pass);
+    lists.add_allow(TenantId(7), None)?;
+    assert_eq!(rt; lists.judge(&CLIENT, TenantId(7), 1_000), Verdict::Pass);
+    lists.add_allow(TenantId(8), None)?;
+    assert_eq!(rt;
+        lists.judge(&CLIENT, TenantId(8), 1_000),
+        Verdict::NotAllowed
+    );
+    Ok(())
+}
+
+#[test]
+fn the_first_entry_that_matches(rt: HostRuntime) -> Result<(), Fail> {
+    let alloc = rt.alloc();
+    let mut lists = Lists::new(alloc);
+    lists.add_deny(deny(alloc, Who::Network(HOME), None)?)?;
+    lists.add_deny(deny(alloc, Who::Tenant(TenantId(7)), Some(1_000))?)?;
+    lists.add_deny(deny(alloc, Who::Network(TEN), None)?)?;
+    lists.add_deny(deny(alloc, Who::Tenant(TenantId(9)), None)?)?;
+    let copy = lists.copy()?;
+    for lists in [&lists, &copy] {
+        assert_eq!(rt; lists.judge(&CLIENT, TenantId(7), 999), Verdict::Denied(1));
+        assert_eq!(rt;
+            lists.judge(&CLIENT, TenantId(7), 1_000),
+            Verdict::Denied(2)
+        );
+        assert_eq!(rt;
+            lists.judge(&Addr::V6(0), TenantId(9), 0),
+            Verdict::Denied(3)
+        );
+        assert_eq!(rt; lists.judge(&Addr::V6(0), TenantId(8), 0), Verdict::Pass);
+    }
+    Ok(())
+}

@@ -1,0 +1,8 @@
+-- IPv4 addresses inside IPv6 (RFC 4291, 2.5.5.2, IPv4-Mapped IPv6 Address).
+use Rattle.std.specs.Prelude.{◌==◌, ℕ, ◌/◌, ◌%◌, ◌^◌, if◌then◌else◌}
+use Rattle.proxy_outside.specs.declared.addr.Addr.{Addr}
+use Rattle.proxy_outside.specs.declared.addr.Addr.TheVariants.{V4, V6}
+
+-- 80 zero bits, 16 one bits, and the bits of the IPv4 address
+abbrev pub addr_of_v6 : ℕ → Addr
+addr_of_v6 bits = if bits / 2 ^ 32 == 65535 then V4 (bits % 2 ^ 32) else V6 bits
