@@ -1,1 +1,5 @@
 pub mod ParamsLemmas
+pub mod Texts
+pub mod Lists
+pub mod Ended
+pub mod FieldLemmas

@@ -1,2 +1,4 @@
+pub mod Reading
 pub mod Params
 pub mod Startup
+pub mod Fields

@@ -16,6 +16,11 @@ abbrev pub with_value : List ℕ → List ℕ → List Pair → List Pair
 with_value name value [] = record { name = name; value = value } ∷ []
 with_value name value (q ∷ p) = if is_named name q then record { name = q.name; value = value } ∷ p else q ∷ with_value name value p
 
+-- the pairs are put one after the other, so that a name that comes again keeps its first place and takes the later value
+abbrev pub put_all : List Pair → List Pair → List Pair
+put_all p [] = p
+put_all p (q ∷ qs) = put_all (with_value q.name q.value p) qs
+
 abbrev pub HasDistinctNames : List Pair → Type 0
 HasDistinctNames [] = Unit {0}
 HasDistinctNames (q ∷ p) = (value_of q.name p ≡ None) × HasDistinctNames p

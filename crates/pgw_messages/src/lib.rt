@@ -7,11 +7,23 @@
 //! StartupMessage.
 #![tactic(auto)]
 
+mod backend;
+mod fault;
+mod item;
+mod items;
+mod numbers;
 mod params;
 mod pod_key;
+mod reader;
+mod startup;
 
+pub use backend::fields::{Field, Fields};
+pub use fault::MsgFault;
+pub use items::Items;
+pub use numbers::{Formats, Types};
 pub use params::{Pair, Params};
 pub use pod_key::PodKey;
+pub use startup::{read_params, startup_bytes};
 
 #[cfg(test)]
 mod tests;

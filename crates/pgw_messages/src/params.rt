@@ -97,4 +97,10 @@ impl Params {
     {
         self.pairs.get(i)
     }
+
+    pub fn as_slice(&self) -> &[Pair]
+        ensures { result.now ≡ self.now }
+    {
+        self.pairs.as_slice()
+    }
 }

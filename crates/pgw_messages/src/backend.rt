@@ -1,0 +1,3 @@
+//! Messages of a server.
+
+pub(crate) mod fields;

@@ -1,0 +1,31 @@
+//! Lists of numbers.
+
+ghost use Rattle.std.specs.Int.{w16, w32};
+ghost use Rattle.pgw_messages.specs.Reading.{number_at};
+
+use crate::fault::MsgFault;
+use crate::item::Item;
+use crate::items::Items;
+use crate::reader::Reader;
+
+/// Format codes: 0 is text, 1 is binary.
+pub type Formats = Items<u16>;
+
+/// Object ids of types.
+pub type Types = Items<u32>;
+
+impl Item for u16 {
+    ghost at = { number_at w16 };
+
+    fn read(r: &mut Reader<'_>) -> Result<u16, MsgFault> {
+        r.u16()
+    }
+}
+
+impl Item for u32 {
+    ghost at = { number_at w32 };
+
+    fn read(r: &mut Reader<'_>) -> Result<u32, MsgFault> {
+        r.u32()
+    }
+}

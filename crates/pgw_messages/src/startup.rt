@@ -1,0 +1,75 @@
+//! The startup packet. PostgreSQL manual, "Message Formats", StartupMessage.
+
+ghost use Rattle.std.specs.Prelude.{◌≡◌, ◌++◌, OnOk, IfOk};
+ghost use Rattle.std.specs.List.{flat_map};
+ghost use Rattle.pgw_messages.specs.Reading.{Gives, Reads};
+ghost use Rattle.pgw_messages.specs.Startup.{Fits, startup_packet, startup_body, pair_bytes, pairs_at, params_of};
+
+use crate::fault::MsgFault;
+use crate::params::{Pair, Params};
+use crate::reader::Reader;
+use pgw_frames::{Bytes, NoMemory};
+use std::alloc::Global;
+
+/// Version 3.0 of the protocol.
+const VERSION: u32 = 196_608;
+
+/// Reads pairs up to a zero byte.
+fn read_pairs(alloc: Global, r: &mut Reader<'_>) -> Result<Params, MsgFault>
+    ensures { Reads result r.new (pairs_at r.old) }
+{
+    let mut params = Params::new(alloc);
+    while !r.ends()? {
+        let name = r.str()?;
+        let value = r.str()?;
+        params.put(name, value)?;
+    }
+    Ok(params)
+}
+
+/// Reads the parameters of a startup packet from the bytes behind its version: zero-ended names and
+/// values, and a zero byte. A name that comes again keeps its first place and takes the later value.
+/// `Short`, `NotText` and `Trailing` say what stands there first in place of that.
+#[tactic(auto, unfolding(crate::specs::Startup::params_of))]
+pub fn read_params(alloc: Global, body: &[u8]) -> Result<Params, MsgFault>
+    ensures { Gives result (params_of body.now) }
+{
+    let mut r = Reader::new(alloc, body);
+    let params = read_pairs(alloc, &mut r)?;
+    r.finish()?;
+    Ok(params)
+}
+
+fn write_pair(pair: &Pair, out: &mut Bytes) -> Result<(), NoMemory>
+    ensures { OnOk result (out.new ≡ out.old ++ pair_bytes pair.now) }
+{
+    out.extend(pair.name.as_str().as_bytes())?;
+    out.extend(b"\0")?;
+    out.extend(pair.value.as_str().as_bytes())?;
+    out.extend(b"\0")?;
+    Ok(())
+}
+
+fn write_body(alloc: Global, p: &Params) -> Result<Bytes, NoMemory>
+    ensures { IfOk result (λ b. b ≡ startup_body p.now) }
+{
+    let mut body = Bytes::of(alloc, &VERSION.to_be_bytes())?;
+    for pair in p.as_slice() {
+        write_pair(pair, &mut body)?;
+    }
+    body.extend(b"\0")?;
+    Ok(body)
+}
+
+/// The startup packet of these parameters, at most 11,900,000 bytes.
+#[tactic(auto, unfolding(crate::specs::Startup::startup_packet))]
+pub fn startup_bytes(alloc: Global, p: &Params) -> Result<Bytes, NoMemory>
+    requires { Fits p.now }
+    ensures { IfOk result (λ b. b ≡ startup_packet p.now) }
+{
+    let body = write_body(alloc, p)?;
+    let len = body.len() as u32 + 4;
+    let mut packet = Bytes::of(alloc, &len.to_be_bytes())?;
+    packet.extend(body.as_slice())?;
+    Ok(packet)
+}
