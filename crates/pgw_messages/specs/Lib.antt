@@ -2,3 +2,4 @@ pub mod Reading
 pub mod Params
 pub mod Startup
 pub mod Fields
+pub mod Frontend

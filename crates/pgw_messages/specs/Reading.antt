@@ -14,6 +14,10 @@ abbrev pub ◌>>=◌ : {A B : Type 0} → Result A MsgFault → (A → Result B 
 (Ok x) >>= f = f x
 (Err e) >>= f = Err e
 
+-- a reading whose value is seen so
+abbrev pub mapped : {A B : Type 0} → (A → B) → Read A → Read B
+mapped f read = read >>= λ x. Ok (f x.0, x.1)
+
 -- ---- what a call answers
 
 -- the fault is that of the reading, unless memory ran out

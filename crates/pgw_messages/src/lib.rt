@@ -9,6 +9,7 @@
 
 mod backend;
 mod fault;
+mod frontend;
 mod item;
 mod items;
 mod numbers;
@@ -16,14 +17,17 @@ mod params;
 mod pod_key;
 mod reader;
 mod startup;
+mod values;
 
 pub use backend::fields::{Field, Fields};
 pub use fault::MsgFault;
+pub use frontend::{BindMsg, ExecuteMsg, FrontMsg, ParseMsg, Part, read_front};
 pub use items::Items;
 pub use numbers::{Formats, Types};
 pub use params::{Pair, Params};
 pub use pod_key::PodKey;
 pub use startup::{read_params, startup_bytes};
+pub use values::Row;
 
 #[cfg(test)]
 mod tests;

@@ -1,6 +1,6 @@
 use Rattle.std.proofs.Common.{lit≤}
 use Rattle.pgw_messages.specs.Startup.{startup_packet}
-use Rattle.pgw_messages.proofs.tests.the_startup_packet.Goals as goal
+use Rattle.pgw_messages.proofs.tests.startup.the_startup_packet.Goals as goal
 
 pub startup_bytes-requires : goal.startup_bytes-requires
 unfolding startup_packet

@@ -1,0 +1,27 @@
+//! Execute.
+
+ghost use Rattle.pgw_messages.specs.Reading.{Reads};
+ghost use Rattle.pgw_messages.specs.Frontend.{execute_at};
+
+use crate::fault::MsgFault;
+use crate::reader::Reader;
+use pgw_frames::Text;
+
+/// Runs a portal.
+#[derive(Debug, Drop)]
+pub struct ExecuteMsg {
+    /// The portal's name, which is empty for the unnamed one.
+    pub portal: Text,
+    /// The most rows to reply, or 0 for all.
+    pub most: u32,
+}
+
+impl ExecuteMsg {
+    pub(crate) fn read(r: &mut Reader<'_>) -> Result<ExecuteMsg, MsgFault>
+        ensures { Reads result r.new (execute_at r.old) }
+    {
+        let portal = r.text()?;
+        let most = r.u32()?;
+        Ok(ExecuteMsg { portal, most })
+    }
+}

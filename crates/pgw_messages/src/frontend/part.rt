@@ -1,0 +1,30 @@
+//! What Describe and Close name.
+
+ghost use Rattle.pgw_messages.specs.Reading.{Reads};
+ghost use Rattle.pgw_messages.specs.Frontend.{part_at};
+
+use crate::fault::MsgFault;
+use crate::reader::Reader;
+use pgw_frames::Text;
+
+/// A statement or a portal.
+#[derive(Debug, Drop)]
+pub struct Part {
+    /// `S` for a statement, `P` for a portal.
+    pub kind: u8,
+    /// Its name, which is empty for the unnamed one.
+    pub name: Text,
+}
+
+impl Part {
+    pub(crate) fn read(r: &mut Reader<'_>) -> Result<Part, MsgFault>
+        ensures { Reads result r.new (part_at r.old) }
+    {
+        let kind = r.u8()?;
+        if kind != b'S' && kind != b'P' {
+            return Err(MsgFault::BadValue);
+        }
+        let name = r.text()?;
+        Ok(Part { kind, name })
+    }
+}

@@ -1,0 +1,35 @@
+use crate::{Params, read_params, startup_bytes};
+use std::test::*;
+
+#[test]
+fn a_later_value_keeps_the_first_place(rt: HostRuntime) -> Result<(), Fail> {
+    let mut p = Params::new(rt.alloc());
+    assert!(rt; p.is_empty());
+    p.put("user", "a")?;
+    p.put("database", "d")?;
+    p.put("user", "b")?;
+    assert_eq!(rt; p.len(), 2);
+    assert_eq!(rt; p.get(0).map(|q| q.value.as_str() == "b"), Some(true));
+    assert_eq!(rt; p.value("database").map(|v| v == "d"), Some(true));
+    assert!(rt; p.value("options").is_none());
+    Ok(())
+}
+
+#[test]
+fn the_startup_packet(rt: HostRuntime) -> Result<(), Fail> {
+    let mut p = Params::new(rt.alloc());
+    p.put("user", "u")?;
+    p.put("database", "d")?;
+    let packet = startup_bytes(rt.alloc(), &p)?;
+    let want = b"\0\0\0\x1b\0\x03\0\0user\0u\0database\0d\0\0";
+    assert_eq!(rt; packet.as_slice(), want.as_slice());
+    Ok(())
+}
+
+#[test]
+fn parameters_with_a_name_twice(rt: HostRuntime) -> Result<(), Fail> {
+    let p = read_params(rt.alloc(), b"user\0a\0user\0b\0\0")?;
+    assert_eq!(rt; p.len(), 1);
+    assert_eq!(rt; p.value("user").map(|v| v == "b"), Some(true));
+    Ok(())
+}
