@@ -3,3 +3,4 @@ pub mod Params
 pub mod Startup
 pub mod Fields
 pub mod Frontend
+pub mod Backend

@@ -1,3 +1,18 @@
 //! Messages of a server.
 
-pub(crate) mod fields;
+mod auth;
+mod columns;
+mod copy;
+mod fields;
+mod message;
+mod notify;
+mod reading;
+mod status;
+
+pub use auth::AuthMsg;
+pub use columns::{Column, Columns};
+pub use copy::CopyMsg;
+pub use fields::{Field, Fields};
+pub use message::BackMsg;
+pub use notify::NotifyMsg;
+pub use reading::read_back;

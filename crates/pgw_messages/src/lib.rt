@@ -19,7 +19,9 @@ mod reader;
 mod startup;
 mod values;
 
-pub use backend::fields::{Field, Fields};
+pub use backend::{
+    AuthMsg, BackMsg, Column, Columns, CopyMsg, Field, Fields, NotifyMsg, read_back,
+};
 pub use fault::MsgFault;
 pub use frontend::{BindMsg, ExecuteMsg, FrontMsg, ParseMsg, Part, read_front};
 pub use items::Items;

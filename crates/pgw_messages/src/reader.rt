@@ -42,6 +42,10 @@ impl<'a> Reader<'a> {
         Reader { alloc, rest }
     }
 
+    pub(crate) fn allocator(&self) -> Global {
+        self.alloc
+    }
+
     /// Takes as many bytes as the array has.
     fn chunk<const N: usize>(&mut self) -> Result<[u8; N], MsgFault>
         ensures { Reads result self.new (taken N self.old) }

@@ -15,10 +15,10 @@ use std::alloc::Global;
 const VERSION: u32 = 196_608;
 
 /// Reads pairs up to a zero byte.
-fn read_pairs(alloc: Global, r: &mut Reader<'_>) -> Result<Params, MsgFault>
+fn read_pairs(r: &mut Reader<'_>) -> Result<Params, MsgFault>
     ensures { Reads result r.new (pairs_at r.old) }
 {
-    let mut params = Params::new(alloc);
+    let mut params = Params::new(r.allocator());
     while !r.ends()? {
         let name = r.str()?;
         let value = r.str()?;
@@ -35,7 +35,7 @@ pub fn read_params(alloc: Global, body: &[u8]) -> Result<Params, MsgFault>
     ensures { Gives result (params_of body.now) }
 {
     let mut r = Reader::new(alloc, body);
-    let params = read_pairs(alloc, &mut r)?;
+    let params = read_pairs(&mut r)?;
     r.finish()?;
     Ok(params)
 }

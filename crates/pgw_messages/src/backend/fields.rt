@@ -8,7 +8,6 @@ use crate::fault::MsgFault;
 use crate::items::Items;
 use crate::reader::Reader;
 use pgw_frames::Text;
-use std::alloc::Global;
 
 /// One field of an error or a notice.
 #[derive(Debug, Drop)]
@@ -29,10 +28,10 @@ fn read_field(r: &mut Reader<'_>) -> Result<Field, MsgFault>
     Ok(Field { code, value })
 }
 
-pub(crate) fn read_fields(alloc: Global, r: &mut Reader<'_>) -> Result<Fields, MsgFault>
+pub(crate) fn read_fields(r: &mut Reader<'_>) -> Result<Fields, MsgFault>
     ensures { Reads result r.new (fields_at r.old) }
 {
-    let mut fields = Items::new(alloc);
+    let mut fields = Items::new(r.allocator());
     while !r.ends()? {
         let field = read_field(r)?;
         fields.push(field)?;

@@ -1,0 +1,28 @@
+//! The messages that ask for authentication.
+
+ghost use Rattle.pgw_messages.specs.Reading.{Reads};
+ghost use Rattle.pgw_messages.specs.Backend.{auth_at};
+
+use crate::fault::MsgFault;
+use crate::reader::Reader;
+use pgw_frames::Bytes;
+
+/// A step of authentication. All of these messages have one type.
+#[derive(Debug, Drop)]
+pub struct AuthMsg {
+    /// 0 is AuthenticationOk, 3 asks for a password in clear text, 5 for an MD5 one; 10 to 12 are of
+    /// SASL.
+    pub code: u32,
+    /// What the code brings with it, which is not read.
+    pub rest: Bytes,
+}
+
+impl AuthMsg {
+    pub(crate) fn read(r: &mut Reader<'_>) -> Result<AuthMsg, MsgFault>
+        ensures { Reads result r.new (auth_at r.old) }
+    {
+        let code = r.u32()?;
+        let rest = r.remaining()?;
+        Ok(AuthMsg { code, rest })
+    }
+}

@@ -1,0 +1,54 @@
+//! RowDescription.
+
+ghost use Rattle.pgw_messages.specs.Reading.{Reads};
+ghost use Rattle.pgw_messages.specs.Backend.{column_at};
+
+use crate::fault::MsgFault;
+use crate::item::Item;
+use crate::items::Items;
+use crate::reader::Reader;
+use pgw_frames::Text;
+
+/// A column of a result.
+#[derive(Debug, Drop)]
+pub struct Column {
+    pub name: Text,
+    /// The object id of its table, or 0.
+    pub table: u32,
+    /// Its number in that table, or 0.
+    pub column: u16,
+    /// The object id of its type.
+    pub kind: u32,
+    /// How many bytes the type takes; negative where they vary.
+    pub size: i16,
+    /// The type's modifier, or -1.
+    pub modifier: i32,
+    /// 0 is text, 1 is binary.
+    pub format: u16,
+}
+
+/// The columns of a result.
+pub type Columns = Items<Column>;
+
+impl Item for Column {
+    ghost at = { column_at };
+
+    fn read(r: &mut Reader<'_>) -> Result<Column, MsgFault> {
+        let name = r.text()?;
+        let table = r.u32()?;
+        let column = r.u16()?;
+        let kind = r.u32()?;
+        let size = r.i16()?;
+        let modifier = r.i32()?;
+        let format = r.u16()?;
+        Ok(Column {
+            name,
+            table,
+            column,
+            kind,
+            size,
+            modifier,
+            format,
+        })
+    }
+}

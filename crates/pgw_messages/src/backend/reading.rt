@@ -1,0 +1,55 @@
+//! Reading a server's messages.
+
+ghost use Rattle.pgw_messages.specs.Reading.{Gives, Reads};
+ghost use Rattle.pgw_messages.specs.Backend.{back_at, back_of};
+
+use crate::backend::auth::AuthMsg;
+use crate::backend::columns::Column;
+use crate::backend::copy::CopyMsg;
+use crate::backend::fields::read_fields;
+use crate::backend::message::BackMsg;
+use crate::backend::notify::NotifyMsg;
+use crate::backend::status::{read_key, read_ready, read_status};
+use crate::fault::MsgFault;
+use crate::reader::Reader;
+use pgw_frames::{Bytes, Frame};
+use std::alloc::Global;
+
+/// Reads the body of a message of this type.
+fn read_body(tag: u8, r: &mut Reader<'_>) -> Result<BackMsg, MsgFault>
+    ensures { Reads result r.new (back_at tag r.old) }
+{
+    match tag {
+        b'R' => Ok(BackMsg::Auth(AuthMsg::read(r)?)),
+        b'S' => Ok(BackMsg::Status(read_status(r)?)),
+        b'K' => Ok(BackMsg::Key(read_key(r)?)),
+        b'Z' => Ok(BackMsg::Ready(read_ready(r)?)),
+        b'T' => Ok(BackMsg::Columns(r.list::<Column>()?)),
+        b'D' => Ok(BackMsg::Row(r.list::<Option<Bytes>>()?)),
+        b'C' => Ok(BackMsg::Complete(r.text()?)),
+        b'I' => Ok(BackMsg::Empty),
+        b'E' => Ok(BackMsg::Fault(read_fields(r)?)),
+        b'N' => Ok(BackMsg::Notice(read_fields(r)?)),
+        b'A' => Ok(BackMsg::Notify(NotifyMsg::read(r)?)),
+        b'1' => Ok(BackMsg::ParseDone),
+        b'2' => Ok(BackMsg::BindDone),
+        b'3' => Ok(BackMsg::CloseDone),
+        b't' => Ok(BackMsg::ParamTypes(r.list::<u32>()?)),
+        b'n' => Ok(BackMsg::NoRows),
+        b's' => Ok(BackMsg::Suspended),
+        b'G' => Ok(BackMsg::CopyIn(CopyMsg::read(r)?)),
+        _ => Err(MsgFault::UnknownTag(tag)),
+    }
+}
+
+/// Reads a server's message. The refusal is the first fault from the type byte to the last byte of
+/// the body, each field in turn. `Trailing` comes after all fields.
+#[tactic(auto, unfolding(crate::specs::Backend::back_of))]
+pub fn read_back(alloc: Global, f: &Frame) -> Result<BackMsg, MsgFault>
+    ensures { Gives result (back_of f.now) }
+{
+    let mut r = Reader::new(alloc, f.body.as_slice());
+    let message = read_body(f.tag, &mut r)?;
+    r.finish()?;
+    Ok(message)
+}
