@@ -1,6 +1,7 @@
 -- The messages of a server (PostgreSQL manual, Message Formats).
-use Rattle.std.specs.Prelude.{◌==◌, ℕ, Bool, ◌||◌, List, Result, Ok, Err, if◌then◌else◌}
-use Rattle.std.specs.Int.{w16, w32}
+use Rattle.std.specs.Prelude.{◌≡◌, ◌==◌, ℕ, ◌≤◌, Bool, true, ◌||◌, List, [], ◌∷◌, ◌++◌, length, Result, Ok, Err, if◌then◌else◌}
+use Rattle.std.specs.List.{AllByRecursion}
+use Rattle.std.specs.Int.{w16, w32, to_be_bytes}
 use Rattle.pgw_frames.specs.declared.frame.Frame.{Frame}
 use Rattle.pgw_messages.specs.declared.fault.MsgFault.{MsgFault}
 use Rattle.pgw_messages.specs.declared.fault.MsgFault.TheVariants.{UnknownTag, BadValue}
@@ -12,10 +13,14 @@ use Rattle.pgw_messages.specs.declared.backend.notify.NotifyMsg.{NotifyMsg}
 use Rattle.pgw_messages.specs.declared.backend.message.BackMsg.{BackMsg}
 use Rattle.pgw_messages.specs.declared.backend.message.BackMsg.TheVariants as back
 use Rattle.pgw_messages.specs.Reading.{Read, ◌>>=◌, mapped, byte_at, number_at, signed_at, remaining_at, value_at, text_at, list_at, whole}
-use Rattle.pgw_messages.specs.Fields.{fields_at}
-use Rattle.pgw_messages.specs.Startup.{pair_at}
+use Rattle.pgw_messages.specs.Spelling.{text_bytes, signed_bytes, value_bytes, list_bytes, HasNoZero}
+use Rattle.pgw_messages.specs.Fields.{fields_at, fields_bytes, CanWriteField}
+use Rattle.pgw_messages.specs.Startup.{pair_at, pair_bytes}
 
 -- ---- bodies
+
+abbrev pub auth_bytes : AuthMsg → List ℕ
+auth_bytes m = to_be_bytes w32 m.code ++ m.rest
 
 abbrev pub auth_at : List ℕ → Read AuthMsg
 auth_at b = do
@@ -28,6 +33,9 @@ key_at b = do
   process ← number_at w32 b
   secret ← number_at w32 process.1
   Ok (record { process = process.0; secret = secret.0 }, secret.1)
+
+abbrev pub key_bytes : PodKey → List ℕ
+key_bytes m = to_be_bytes w32 m.process ++ to_be_bytes w32 m.secret
 
 -- `I` outside a transaction, `T` inside one, `E` inside a failed one
 abbrev pub is_state : ℕ → Bool
@@ -49,6 +57,9 @@ column_at b = do
   format ← number_at w16 modifier.1
   Ok (record { name = name.0; table = table.0; column = column.0; kind = kind.0; size = size.0; modifier = modifier.0; format = format.0 }, format.1)
 
+abbrev pub column_bytes : Column → List ℕ
+column_bytes c = text_bytes c.name ++ to_be_bytes w32 c.table ++ to_be_bytes w16 c.column ++ to_be_bytes w32 c.kind ++ signed_bytes w16 c.size ++ signed_bytes w32 c.modifier ++ to_be_bytes w16 c.format
+
 abbrev pub notify_at : List ℕ → Read NotifyMsg
 notify_at b = do
   process ← number_at w32 b
@@ -56,11 +67,17 @@ notify_at b = do
   payload ← text_at channel.1
   Ok (record { process = process.0; channel = channel.0; payload = payload.0 }, payload.1)
 
+abbrev pub notify_bytes : NotifyMsg → List ℕ
+notify_bytes m = to_be_bytes w32 m.process ++ text_bytes m.channel ++ text_bytes m.payload
+
 abbrev pub copy_at : List ℕ → Read CopyMsg
 copy_at b = do
   format ← byte_at b
   formats ← list_at (number_at w16) format.1
   Ok (record { format = format.0; formats = formats.0 }, formats.1)
+
+abbrev pub copy_bytes : CopyMsg → List ℕ
+copy_bytes m = m.format ∷ [] ++ list_bytes (to_be_bytes w16) m.formats
 
 -- ---- messages
 
@@ -108,3 +125,75 @@ back_at tag b =
 -- the message that a frame is
 unfoldable pub back_of : Frame → Result BackMsg MsgFault
 back_of f = whole (back_at f.tag f.body)
+
+-- the type of a message
+abbrev pub back_tag : BackMsg → ℕ
+back_tag (back.Auth m) = 82
+back_tag (back.Status m) = 83
+back_tag (back.Key m) = 75
+back_tag (back.Ready state) = 90
+back_tag (back.Columns cs) = 84
+back_tag (back.Row vs) = 68
+back_tag (back.Complete t) = 67
+back_tag back.Empty = 73
+back_tag (back.Fault fs) = 69
+back_tag (back.Notice fs) = 78
+back_tag (back.Notify m) = 65
+back_tag back.ParseDone = 49
+back_tag back.BindDone = 50
+back_tag back.CloseDone = 51
+back_tag (back.ParamTypes ts) = 116
+back_tag back.NoRows = 110
+back_tag back.Suspended = 115
+back_tag (back.CopyIn m) = 71
+
+-- the body of a message
+abbrev pub back_body : BackMsg → List ℕ
+back_body (back.Auth m) = auth_bytes m
+back_body (back.Status m) = pair_bytes m
+back_body (back.Key m) = key_bytes m
+back_body (back.Ready state) = state ∷ []
+back_body (back.Columns cs) = list_bytes column_bytes cs
+back_body (back.Row vs) = list_bytes value_bytes vs
+back_body (back.Complete t) = text_bytes t
+back_body back.Empty = []
+back_body (back.Fault fs) = fields_bytes fs
+back_body (back.Notice fs) = fields_bytes fs
+back_body (back.Notify m) = notify_bytes m
+back_body back.ParseDone = []
+back_body back.BindDone = []
+back_body back.CloseDone = []
+back_body (back.ParamTypes ts) = list_bytes (to_be_bytes w32) ts
+back_body back.NoRows = []
+back_body back.Suspended = []
+back_body (back.CopyIn m) = copy_bytes m
+
+-- the frame that a message is
+abbrev pub back_frame : BackMsg → Frame
+back_frame m = record { tag = back_tag m; body = back_body m }
+
+-- texts have no zero byte, a list has a count of 16 bits, the state is one of its letters, and no field's code is 0
+abbrev pub HasBackFields : BackMsg → Type 0
+HasBackFields (back.Auth m) = Unit {0}
+HasBackFields (back.Status m) = HasNoZero m.name × HasNoZero m.value
+HasBackFields (back.Key m) = Unit {0}
+HasBackFields (back.Ready state) = is_state state ≡ true
+HasBackFields (back.Columns cs) = (length cs ≤ 65535) × AllByRecursion (λ c. HasNoZero c.name) cs
+HasBackFields (back.Row vs) = length vs ≤ 65535
+HasBackFields (back.Complete t) = HasNoZero t
+HasBackFields back.Empty = Unit {0}
+HasBackFields (back.Fault fs) = AllByRecursion CanWriteField fs
+HasBackFields (back.Notice fs) = AllByRecursion CanWriteField fs
+HasBackFields (back.Notify m) = HasNoZero m.channel × HasNoZero m.payload
+HasBackFields back.ParseDone = Unit {0}
+HasBackFields back.BindDone = Unit {0}
+HasBackFields back.CloseDone = Unit {0}
+HasBackFields (back.ParamTypes ts) = length ts ≤ 65535
+HasBackFields back.NoRows = Unit {0}
+HasBackFields back.Suspended = Unit {0}
+HasBackFields (back.CopyIn m) = length m.formats ≤ 65535
+
+-- a message that can be written
+pub record CanWriteBack (m : BackMsg) : Type 0 where
+  pub room : length (back_body m) ≤ 16777216
+  pub fields : HasBackFields m

@@ -1,6 +1,6 @@
 -- The messages of a client (PostgreSQL manual, Message Formats).
-use Rattle.std.specs.Prelude.{◌==◌, ℕ, Bool, ◌||◌, List, Result, Ok, Err, if◌then◌else◌}
-use Rattle.std.specs.Int.{w16, w32}
+use Rattle.std.specs.Prelude.{◌≡◌, ◌==◌, ℕ, ◌≤◌, Bool, true, ◌||◌, List, [], ◌∷◌, ◌++◌, length, Result, Ok, Err, if◌then◌else◌}
+use Rattle.std.specs.Int.{w16, w32, to_be_bytes}
 use Rattle.pgw_frames.specs.declared.frame.Frame.{Frame}
 use Rattle.pgw_messages.specs.declared.fault.MsgFault.{MsgFault}
 use Rattle.pgw_messages.specs.declared.fault.MsgFault.TheVariants.{UnknownTag, BadValue}
@@ -11,6 +11,7 @@ use Rattle.pgw_messages.specs.declared.frontend.execute.ExecuteMsg.{ExecuteMsg}
 use Rattle.pgw_messages.specs.declared.frontend.message.FrontMsg.{FrontMsg}
 use Rattle.pgw_messages.specs.declared.frontend.message.FrontMsg.TheVariants as front
 use Rattle.pgw_messages.specs.Reading.{Read, ◌>>=◌, mapped, byte_at, number_at, remaining_at, value_at, text_at, list_at, whole}
+use Rattle.pgw_messages.specs.Spelling.{text_bytes, value_bytes, list_bytes, HasNoZero}
 
 -- ---- bodies
 
@@ -21,6 +22,9 @@ parse_at b = do
   types ← list_at (number_at w32) query.1
   Ok (record { name = name.0; query = query.0; types = types.0 }, types.1)
 
+abbrev pub parse_bytes : ParseMsg → List ℕ
+parse_bytes m = text_bytes m.name ++ text_bytes m.query ++ list_bytes (to_be_bytes w32) m.types
+
 abbrev pub bind_at : List ℕ → Read BindMsg
 bind_at b = do
   portal ← text_at b
@@ -29,6 +33,9 @@ bind_at b = do
   values ← list_at value_at formats.1
   results ← list_at (number_at w16) values.1
   Ok (record { portal = portal.0; statement = statement.0; formats = formats.0; values = values.0; results = results.0 }, results.1)
+
+abbrev pub bind_bytes : BindMsg → List ℕ
+bind_bytes m = text_bytes m.portal ++ text_bytes m.statement ++ list_bytes (to_be_bytes w16) m.formats ++ list_bytes value_bytes m.values ++ list_bytes (to_be_bytes w16) m.results
 
 -- `S` for a statement, `P` for a portal
 abbrev pub is_part : ℕ → Bool
@@ -39,11 +46,17 @@ part_at b = do
   kind ← byte_at b
   if is_part kind.0 then mapped (λ name. record { kind = kind.0; name = name }) (text_at kind.1) else Err BadValue
 
+abbrev pub part_bytes : Part → List ℕ
+part_bytes m = m.kind ∷ [] ++ text_bytes m.name
+
 abbrev pub execute_at : List ℕ → Read ExecuteMsg
 execute_at b = do
   portal ← text_at b
   most ← number_at w32 portal.1
   Ok (record { portal = portal.0; most = most.0 }, most.1)
+
+abbrev pub execute_bytes : ExecuteMsg → List ℕ
+execute_bytes m = text_bytes m.portal ++ to_be_bytes w32 m.most
 
 -- ---- messages
 
@@ -83,3 +96,63 @@ front_at tag b =
 -- the message that a frame is
 unfoldable pub front_of : Frame → Result FrontMsg MsgFault
 front_of f = whole (front_at f.tag f.body)
+
+-- the type of a message
+abbrev pub front_tag : FrontMsg → ℕ
+front_tag (front.Query t) = 81
+front_tag (front.Parse m) = 80
+front_tag (front.Bind m) = 66
+front_tag (front.Describe m) = 68
+front_tag (front.Execute m) = 69
+front_tag front.Sync = 83
+front_tag front.Flush = 72
+front_tag (front.Close m) = 67
+front_tag (front.Call b) = 70
+front_tag (front.CopyData b) = 100
+front_tag front.CopyDone = 99
+front_tag (front.CopyFail t) = 102
+front_tag (front.Password b) = 112
+front_tag front.Terminate = 88
+
+-- the body of a message
+abbrev pub front_body : FrontMsg → List ℕ
+front_body (front.Query t) = text_bytes t
+front_body (front.Parse m) = parse_bytes m
+front_body (front.Bind m) = bind_bytes m
+front_body (front.Describe m) = part_bytes m
+front_body (front.Execute m) = execute_bytes m
+front_body front.Sync = []
+front_body front.Flush = []
+front_body (front.Close m) = part_bytes m
+front_body (front.Call b) = b
+front_body (front.CopyData b) = b
+front_body front.CopyDone = []
+front_body (front.CopyFail t) = text_bytes t
+front_body (front.Password b) = b
+front_body front.Terminate = []
+
+-- the frame that a message is
+abbrev pub front_frame : FrontMsg → Frame
+front_frame m = record { tag = front_tag m; body = front_body m }
+
+-- texts have no zero byte, a list has a count of 16 bits, and `kind` is one of its letters
+abbrev pub HasFrontFields : FrontMsg → Type 0
+HasFrontFields (front.Query t) = HasNoZero t
+HasFrontFields (front.Parse m) = HasNoZero m.name × HasNoZero m.query × (length m.types ≤ 65535)
+HasFrontFields (front.Bind m) = HasNoZero m.portal × HasNoZero m.statement × (length m.formats ≤ 65535) × (length m.values ≤ 65535) × (length m.results ≤ 65535)
+HasFrontFields (front.Describe m) = (is_part m.kind ≡ true) × HasNoZero m.name
+HasFrontFields (front.Execute m) = HasNoZero m.portal
+HasFrontFields front.Sync = Unit {0}
+HasFrontFields front.Flush = Unit {0}
+HasFrontFields (front.Close m) = (is_part m.kind ≡ true) × HasNoZero m.name
+HasFrontFields (front.Call b) = Unit {0}
+HasFrontFields (front.CopyData b) = Unit {0}
+HasFrontFields front.CopyDone = Unit {0}
+HasFrontFields (front.CopyFail t) = HasNoZero t
+HasFrontFields (front.Password b) = Unit {0}
+HasFrontFields front.Terminate = Unit {0}
+
+-- a message that can be written
+pub record CanWriteFront (m : FrontMsg) : Type 0 where
+  pub room : length (front_body m) ≤ 16777216
+  pub fields : HasFrontFields m

@@ -1,4 +1,5 @@
 pub mod Reading
+pub mod Spelling
 pub mod Params
 pub mod Startup
 pub mod Fields

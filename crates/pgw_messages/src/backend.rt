@@ -8,6 +8,7 @@ mod message;
 mod notify;
 mod reading;
 mod status;
+mod writing;
 
 pub use auth::AuthMsg;
 pub use columns::{Column, Columns};
@@ -16,3 +17,4 @@ pub use fields::{Field, Fields};
 pub use message::BackMsg;
 pub use notify::NotifyMsg;
 pub use reading::read_back;
+pub use writing::write_back;

@@ -6,6 +6,7 @@ mod message;
 mod parse;
 mod part;
 mod reading;
+mod writing;
 
 pub use bind::BindMsg;
 pub use execute::ExecuteMsg;
@@ -13,3 +14,4 @@ pub use message::FrontMsg;
 pub use parse::ParseMsg;
 pub use part::Part;
 pub use reading::read_front;
+pub use writing::write_front;

@@ -1,17 +1,28 @@
 //! What can stand in a list of a message.
 
+ghost use Rattle.std.specs.Prelude.{◌≡◌, ◌≤◌, ◌++◌, length, OnOk};
 ghost use Rattle.pgw_messages.specs.Reading.{Reads};
 
 use crate::fault::MsgFault;
 use crate::reader::Reader;
+use crate::writer::Writer;
+use pgw_frames::{MOST_BODY, NoMemory};
 
-/// An item with its layout.
+/// An item with its layout, both ways.
 pub(crate) trait Item: Drop {
     ghost use Rattle.std.specs.Prelude.{List, ℕ};
     ghost use Rattle.pgw_messages.specs.Reading.{Read};
 
+    /// How the item is read from the bytes that are left.
     ghost at: { List ℕ → Read Self };
+
+    /// The item's bytes.
+    ghost bytes: { Self → List ℕ };
 
     fn read(r: &mut Reader<'_>) -> Result<Self, MsgFault>
         ensures { Reads result r.new (at r.old) };
+
+    fn write(&self, w: &mut Writer) -> Result<(), NoMemory>
+        requires { length (bytes self.now) ≤ MOST_BODY }
+        ensures { OnOk result (w.new ≡ w.old ++ bytes self.now) };
 }

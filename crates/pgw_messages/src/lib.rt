@@ -1,10 +1,14 @@
-//! What the messages of the protocol hold.
+//! What the messages of the protocol hold, read from frames and written to them.
 //!
-//! So far the parameters of a startup packet, and its layout as a definition; the other messages
-//! follow. Bytes are read and written elsewhere.
+//! Each message of a client and of a server has a type here, and the startup packet has its parameters.
+//! A message is read from left to right, and its first fault is the refusal. Nothing here knows when a
+//! message may come, or cuts a stream into frames.
 //!
-//! Source: PostgreSQL manual, "Message Formats" of the frontend/backend protocol, version 3.0,
-//! StartupMessage.
+//! Not read: the body of FunctionCall and of the password family, what an authentication request brings
+//! with its code, and the messages of a copy out or of both ways.
+//!
+//! Source: PostgreSQL manual, "Message Formats", "Message Data Types" and "Error and Notice Message
+//! Fields" of the frontend/backend protocol, version 3.0.
 #![tactic(auto)]
 
 mod backend;
@@ -13,17 +17,19 @@ mod frontend;
 mod item;
 mod items;
 mod numbers;
+mod pair;
 mod params;
 mod pod_key;
 mod reader;
 mod startup;
 mod values;
+mod writer;
 
 pub use backend::{
-    AuthMsg, BackMsg, Column, Columns, CopyMsg, Field, Fields, NotifyMsg, read_back,
+    AuthMsg, BackMsg, Column, Columns, CopyMsg, Field, Fields, NotifyMsg, read_back, write_back,
 };
 pub use fault::MsgFault;
-pub use frontend::{BindMsg, ExecuteMsg, FrontMsg, ParseMsg, Part, read_front};
+pub use frontend::{BindMsg, ExecuteMsg, FrontMsg, ParseMsg, Part, read_front, write_front};
 pub use items::Items;
 pub use numbers::{Formats, Types};
 pub use params::{Pair, Params};

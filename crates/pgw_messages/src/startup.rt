@@ -6,8 +6,9 @@ ghost use Rattle.pgw_messages.specs.Reading.{Gives, Reads};
 ghost use Rattle.pgw_messages.specs.Startup.{Fits, startup_packet, startup_body, pair_bytes, pairs_at, params_of};
 
 use crate::fault::MsgFault;
-use crate::params::{Pair, Params};
+use crate::params::Params;
 use crate::reader::Reader;
+use crate::writer::Writer;
 use pgw_frames::{Bytes, NoMemory};
 use std::alloc::Global;
 
@@ -40,25 +41,16 @@ pub fn read_params(alloc: Global, body: &[u8]) -> Result<Params, MsgFault>
     Ok(params)
 }
 
-fn write_pair(pair: &Pair, out: &mut Bytes) -> Result<(), NoMemory>
-    ensures { OnOk result (out.new ≡ out.old ++ pair_bytes pair.now) }
-{
-    out.extend(pair.name.as_str().as_bytes())?;
-    out.extend(b"\0")?;
-    out.extend(pair.value.as_str().as_bytes())?;
-    out.extend(b"\0")?;
-    Ok(())
-}
-
 fn write_body(alloc: Global, p: &Params) -> Result<Bytes, NoMemory>
     ensures { IfOk result (λ b. b ≡ startup_body p.now) }
 {
-    let mut body = Bytes::of(alloc, &VERSION.to_be_bytes())?;
+    let mut body = Writer::new(alloc);
+    body.u32(VERSION)?;
     for pair in p.as_slice() {
-        write_pair(pair, &mut body)?;
+        pair.write(&mut body)?;
     }
-    body.extend(b"\0")?;
-    Ok(body)
+    body.u8(0)?;
+    Ok(body.into_bytes())
 }
 
 /// The startup packet of these parameters, at most 11,900,000 bytes.

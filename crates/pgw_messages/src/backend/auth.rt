@@ -1,11 +1,13 @@
 //! The messages that ask for authentication.
 
+ghost use Rattle.std.specs.Prelude.{◌≡◌, ◌++◌, OnOk};
 ghost use Rattle.pgw_messages.specs.Reading.{Reads};
-ghost use Rattle.pgw_messages.specs.Backend.{auth_at};
+ghost use Rattle.pgw_messages.specs.Backend.{auth_at, auth_bytes};
 
 use crate::fault::MsgFault;
 use crate::reader::Reader;
-use pgw_frames::Bytes;
+use crate::writer::Writer;
+use pgw_frames::{Bytes, NoMemory};
 
 /// A step of authentication. All of these messages have one type.
 #[derive(Debug, Drop)]
@@ -24,5 +26,13 @@ impl AuthMsg {
         let code = r.u32()?;
         let rest = r.remaining()?;
         Ok(AuthMsg { code, rest })
+    }
+
+    pub(crate) fn write(&self, w: &mut Writer) -> Result<(), NoMemory>
+        ensures { OnOk result (w.new ≡ w.old ++ auth_bytes self.now) }
+    {
+        w.u32(self.code)?;
+        w.bytes(self.rest.as_slice())?;
+        Ok(())
     }
 }

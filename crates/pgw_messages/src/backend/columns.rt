@@ -1,13 +1,13 @@
 //! RowDescription.
 
-ghost use Rattle.pgw_messages.specs.Reading.{Reads};
-ghost use Rattle.pgw_messages.specs.Backend.{column_at};
+ghost use Rattle.pgw_messages.specs.Backend.{column_at, column_bytes};
 
 use crate::fault::MsgFault;
 use crate::item::Item;
 use crate::items::Items;
 use crate::reader::Reader;
-use pgw_frames::Text;
+use crate::writer::Writer;
+use pgw_frames::{NoMemory, Text};
 
 /// A column of a result.
 #[derive(Debug, Drop)]
@@ -33,6 +33,8 @@ pub type Columns = Items<Column>;
 impl Item for Column {
     ghost at = { column_at };
 
+    ghost bytes = { column_bytes };
+
     fn read(r: &mut Reader<'_>) -> Result<Column, MsgFault> {
         let name = r.text()?;
         let table = r.u32()?;
@@ -50,5 +52,16 @@ impl Item for Column {
             modifier,
             format,
         })
+    }
+
+    fn write(&self, w: &mut Writer) -> Result<(), NoMemory> {
+        w.text(&self.name)?;
+        w.u32(self.table)?;
+        w.u16(self.column)?;
+        w.u32(self.kind)?;
+        w.i16(self.size)?;
+        w.i32(self.modifier)?;
+        w.u16(self.format)?;
+        Ok(())
     }
 }

@@ -1,11 +1,14 @@
 //! CopyInResponse.
 
+ghost use Rattle.std.specs.Prelude.{◌≡◌, ◌≤◌, ◌++◌, length, OnOk};
 ghost use Rattle.pgw_messages.specs.Reading.{Reads};
-ghost use Rattle.pgw_messages.specs.Backend.{copy_at};
+ghost use Rattle.pgw_messages.specs.Backend.{copy_at, copy_bytes};
 
 use crate::fault::MsgFault;
 use crate::numbers::Formats;
 use crate::reader::Reader;
+use crate::writer::Writer;
+use pgw_frames::{MOST_BODY, NoMemory};
 
 /// The server is ready for the data of a copy.
 #[derive(Debug, Drop)]
@@ -23,5 +26,15 @@ impl CopyMsg {
         let format = r.u8()?;
         let formats = r.list::<u16>()?;
         Ok(CopyMsg { format, formats })
+    }
+
+    pub(crate) fn write(&self, w: &mut Writer) -> Result<(), NoMemory>
+        requires count { length self.now.formats ≤ 65535 }
+        requires room { length (copy_bytes self.now) ≤ MOST_BODY }
+        ensures { OnOk result (w.new ≡ w.old ++ copy_bytes self.now) }
+    {
+        w.u8(self.format)?;
+        w.list(&self.formats)?;
+        Ok(())
     }
 }

@@ -1,13 +1,15 @@
 //! What an error or a notice says. PostgreSQL manual, "Message Formats", ErrorResponse and
 //! NoticeResponse, and "Error and Notice Message Fields".
 
+ghost use Rattle.std.specs.Prelude.{◌≡◌, ◌++◌, OnOk};
 ghost use Rattle.pgw_messages.specs.Reading.{Reads};
-ghost use Rattle.pgw_messages.specs.Fields.{field_at, fields_at};
+ghost use Rattle.pgw_messages.specs.Fields.{field_at, field_bytes, fields_at, fields_bytes};
 
 use crate::fault::MsgFault;
 use crate::items::Items;
 use crate::reader::Reader;
-use pgw_frames::Text;
+use crate::writer::Writer;
+use pgw_frames::{NoMemory, Text};
 
 /// One field of an error or a notice.
 #[derive(Debug, Drop)]
@@ -37,4 +39,22 @@ pub(crate) fn read_fields(r: &mut Reader<'_>) -> Result<Fields, MsgFault>
         fields.push(field)?;
     }
     Ok(fields)
+}
+
+fn write_field(field: &Field, w: &mut Writer) -> Result<(), NoMemory>
+    ensures { OnOk result (w.new ≡ w.old ++ field_bytes field.now) }
+{
+    w.u8(field.code)?;
+    w.text(&field.value)?;
+    Ok(())
+}
+
+pub(crate) fn write_fields(fields: &Fields, w: &mut Writer) -> Result<(), NoMemory>
+    ensures { OnOk result (w.new ≡ w.old ++ fields_bytes fields.now) }
+{
+    for field in fields.as_slice() {
+        write_field(field, w)?;
+    }
+    w.u8(0)?;
+    Ok(())
 }

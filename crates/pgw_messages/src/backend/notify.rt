@@ -1,11 +1,13 @@
 //! NotificationResponse.
 
+ghost use Rattle.std.specs.Prelude.{◌≡◌, ◌++◌, OnOk};
 ghost use Rattle.pgw_messages.specs.Reading.{Reads};
-ghost use Rattle.pgw_messages.specs.Backend.{notify_at};
+ghost use Rattle.pgw_messages.specs.Backend.{notify_at, notify_bytes};
 
 use crate::fault::MsgFault;
 use crate::reader::Reader;
-use pgw_frames::Text;
+use crate::writer::Writer;
+use pgw_frames::{NoMemory, Text};
 
 /// A notification of a channel that the client listens to.
 #[derive(Debug, Drop)]
@@ -28,5 +30,14 @@ impl NotifyMsg {
             channel,
             payload,
         })
+    }
+
+    pub(crate) fn write(&self, w: &mut Writer) -> Result<(), NoMemory>
+        ensures { OnOk result (w.new ≡ w.old ++ notify_bytes self.now) }
+    {
+        w.u32(self.process)?;
+        w.text(&self.channel)?;
+        w.text(&self.payload)?;
+        Ok(())
     }
 }

@@ -9,8 +9,9 @@ use crate::backend::copy::CopyMsg;
 use crate::backend::fields::read_fields;
 use crate::backend::message::BackMsg;
 use crate::backend::notify::NotifyMsg;
-use crate::backend::status::{read_key, read_ready, read_status};
+use crate::backend::status::{read_key, read_ready};
 use crate::fault::MsgFault;
+use crate::params::Pair;
 use crate::reader::Reader;
 use pgw_frames::{Bytes, Frame};
 use std::alloc::Global;
@@ -21,7 +22,7 @@ fn read_body(tag: u8, r: &mut Reader<'_>) -> Result<BackMsg, MsgFault>
 {
     match tag {
         b'R' => Ok(BackMsg::Auth(AuthMsg::read(r)?)),
-        b'S' => Ok(BackMsg::Status(read_status(r)?)),
+        b'S' => Ok(BackMsg::Status(Pair::read(r)?)),
         b'K' => Ok(BackMsg::Key(read_key(r)?)),
         b'Z' => Ok(BackMsg::Ready(read_ready(r)?)),
         b'T' => Ok(BackMsg::Columns(r.list::<Column>()?)),

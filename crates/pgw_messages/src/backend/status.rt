@@ -1,22 +1,14 @@
-//! What a server tells of its session: ParameterStatus, BackendKeyData and ReadyForQuery.
+//! What a server tells of its session: BackendKeyData and ReadyForQuery.
 
+ghost use Rattle.std.specs.Prelude.{◌≡◌, ◌++◌, OnOk};
 ghost use Rattle.pgw_messages.specs.Reading.{Reads};
-ghost use Rattle.pgw_messages.specs.Startup.{pair_at};
-ghost use Rattle.pgw_messages.specs.Backend.{key_at, ready_at};
+ghost use Rattle.pgw_messages.specs.Backend.{key_at, key_bytes, ready_at};
 
 use crate::fault::MsgFault;
-use crate::params::Pair;
 use crate::pod_key::PodKey;
 use crate::reader::Reader;
-
-/// Reads a parameter's name and value.
-pub(crate) fn read_status(r: &mut Reader<'_>) -> Result<Pair, MsgFault>
-    ensures { Reads result r.new (pair_at r.old) }
-{
-    let name = r.text()?;
-    let value = r.text()?;
-    Ok(Pair { name, value })
-}
+use crate::writer::Writer;
+use pgw_frames::NoMemory;
 
 pub(crate) fn read_key(r: &mut Reader<'_>) -> Result<PodKey, MsgFault>
     ensures { Reads result r.new (key_at r.old) }
@@ -24,6 +16,14 @@ pub(crate) fn read_key(r: &mut Reader<'_>) -> Result<PodKey, MsgFault>
     let process = r.u32()?;
     let secret = r.u32()?;
     Ok(PodKey { process, secret })
+}
+
+pub(crate) fn write_key(key: &PodKey, w: &mut Writer) -> Result<(), NoMemory>
+    ensures { OnOk result (w.new ≡ w.old ++ key_bytes key.now) }
+{
+    w.u32(key.process)?;
+    w.u32(key.secret)?;
+    Ok(())
 }
 
 /// Reads the state of the transaction: `I` for none, `T` inside one, `E` inside a failed one.

@@ -1,13 +1,15 @@
 //! Bind.
 
+ghost use Rattle.std.specs.Prelude.{◌≡◌, ◌≤◌, ◌++◌, length, OnOk};
 ghost use Rattle.pgw_messages.specs.Reading.{Reads};
-ghost use Rattle.pgw_messages.specs.Frontend.{bind_at};
+ghost use Rattle.pgw_messages.specs.Frontend.{bind_at, bind_bytes};
 
 use crate::fault::MsgFault;
 use crate::numbers::Formats;
 use crate::reader::Reader;
 use crate::values::Row;
-use pgw_frames::{Bytes, Text};
+use crate::writer::Writer;
+use pgw_frames::{Bytes, MOST_BODY, NoMemory, Text};
 
 /// Binds values to a prepared statement, which makes a portal.
 #[derive(Debug, Drop)]
@@ -39,5 +41,20 @@ impl BindMsg {
             values,
             results,
         })
+    }
+
+    pub(crate) fn write(&self, w: &mut Writer) -> Result<(), NoMemory>
+        requires formats { length self.now.formats ≤ 65535 }
+        requires values { length self.now.values ≤ 65535 }
+        requires results { length self.now.results ≤ 65535 }
+        requires room { length (bind_bytes self.now) ≤ MOST_BODY }
+        ensures { OnOk result (w.new ≡ w.old ++ bind_bytes self.now) }
+    {
+        w.text(&self.portal)?;
+        w.text(&self.statement)?;
+        w.list(&self.formats)?;
+        w.list(&self.values)?;
+        w.list(&self.results)?;
+        Ok(())
     }
 }

@@ -1,11 +1,13 @@
 //! Execute.
 
+ghost use Rattle.std.specs.Prelude.{◌≡◌, ◌++◌, OnOk};
 ghost use Rattle.pgw_messages.specs.Reading.{Reads};
-ghost use Rattle.pgw_messages.specs.Frontend.{execute_at};
+ghost use Rattle.pgw_messages.specs.Frontend.{execute_at, execute_bytes};
 
 use crate::fault::MsgFault;
 use crate::reader::Reader;
-use pgw_frames::Text;
+use crate::writer::Writer;
+use pgw_frames::{NoMemory, Text};
 
 /// Runs a portal.
 #[derive(Debug, Drop)]
@@ -23,5 +25,13 @@ impl ExecuteMsg {
         let portal = r.text()?;
         let most = r.u32()?;
         Ok(ExecuteMsg { portal, most })
+    }
+
+    pub(crate) fn write(&self, w: &mut Writer) -> Result<(), NoMemory>
+        ensures { OnOk result (w.new ≡ w.old ++ execute_bytes self.now) }
+    {
+        w.text(&self.portal)?;
+        w.u32(self.most)?;
+        Ok(())
     }
 }

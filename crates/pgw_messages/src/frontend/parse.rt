@@ -1,12 +1,14 @@
 //! Parse.
 
+ghost use Rattle.std.specs.Prelude.{◌≡◌, ◌≤◌, ◌++◌, length, OnOk};
 ghost use Rattle.pgw_messages.specs.Reading.{Reads};
-ghost use Rattle.pgw_messages.specs.Frontend.{parse_at};
+ghost use Rattle.pgw_messages.specs.Frontend.{parse_at, parse_bytes};
 
 use crate::fault::MsgFault;
 use crate::numbers::Types;
 use crate::reader::Reader;
-use pgw_frames::Text;
+use crate::writer::Writer;
+use pgw_frames::{MOST_BODY, NoMemory, Text};
 
 /// Prepares a statement.
 #[derive(Debug, Drop)]
@@ -26,5 +28,16 @@ impl ParseMsg {
         let query = r.text()?;
         let types = r.list::<u32>()?;
         Ok(ParseMsg { name, query, types })
+    }
+
+    pub(crate) fn write(&self, w: &mut Writer) -> Result<(), NoMemory>
+        requires count { length self.now.types ≤ 65535 }
+        requires room { length (parse_bytes self.now) ≤ MOST_BODY }
+        ensures { OnOk result (w.new ≡ w.old ++ parse_bytes self.now) }
+    {
+        w.text(&self.name)?;
+        w.text(&self.query)?;
+        w.list(&self.types)?;
+        Ok(())
     }
 }

@@ -1,11 +1,13 @@
 //! What Describe and Close name.
 
+ghost use Rattle.std.specs.Prelude.{◌≡◌, ◌++◌, OnOk};
 ghost use Rattle.pgw_messages.specs.Reading.{Reads};
-ghost use Rattle.pgw_messages.specs.Frontend.{part_at};
+ghost use Rattle.pgw_messages.specs.Frontend.{part_at, part_bytes};
 
 use crate::fault::MsgFault;
 use crate::reader::Reader;
-use pgw_frames::Text;
+use crate::writer::Writer;
+use pgw_frames::{NoMemory, Text};
 
 /// A statement or a portal.
 #[derive(Debug, Drop)]
@@ -26,5 +28,13 @@ impl Part {
         }
         let name = r.text()?;
         Ok(Part { kind, name })
+    }
+
+    pub(crate) fn write(&self, w: &mut Writer) -> Result<(), NoMemory>
+        ensures { OnOk result (w.new ≡ w.old ++ part_bytes self.now) }
+    {
+        w.u8(self.kind)?;
+        w.text(&self.name)?;
+        Ok(())
     }
 }

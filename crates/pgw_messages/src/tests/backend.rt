@@ -1,5 +1,5 @@
-use crate::{BackMsg, MsgFault, read_back};
-use pgw_frames::{Bytes, Frame};
+use crate::{BackMsg, MsgFault, read_back, write_back};
+use pgw_frames::{Bytes, Frame, write_frame};
 use std::alloc::Global;
 use std::test::*;
 
@@ -36,5 +36,14 @@ fn an_error_has_its_fields(rt: HostRuntime) -> Result<(), Fail> {
         .get(2)
         .map(|f| f.code == b'C' && f.value.as_str() == "28000");
     assert_eq!(rt; code, Some(true));
+    Ok(())
+}
+
+#[test]
+fn ready_on_the_wire(rt: HostRuntime) -> Result<(), Fail> {
+    let frame = write_back(rt.alloc(), &BackMsg::Ready(b'I'))?;
+    let mut wire = Bytes::new(rt.alloc());
+    write_frame(&frame, &mut wire)?;
+    assert_eq!(rt; wire.as_slice(), b"Z\0\0\0\x05I".as_slice());
     Ok(())
 }

@@ -1,5 +1,5 @@
-use crate::{FrontMsg, MsgFault, read_front};
-use pgw_frames::{Bytes, Frame};
+use crate::{FrontMsg, MsgFault, read_front, write_front};
+use pgw_frames::{Bytes, Frame, Text, write_frame};
 use std::alloc::Global;
 use std::test::*;
 
@@ -30,5 +30,15 @@ fn a_query_has_its_text(rt: HostRuntime) -> Result<(), Fail> {
     let body = Bytes::of(rt.alloc(), b"1\0")?;
     let message = read_front(rt.alloc(), &Frame { tag: b'Q', body })?;
     assert!(rt; matches!(&message, FrontMsg::Query(t) if t.as_str() == "1"));
+    Ok(())
+}
+
+#[test]
+fn a_query_on_the_wire(rt: HostRuntime) -> Result<(), Fail> {
+    let query = FrontMsg::Query(Text::of(rt.alloc(), "1")?);
+    let frame = write_front(rt.alloc(), &query)?;
+    let mut wire = Bytes::new(rt.alloc());
+    write_frame(&frame, &mut wire)?;
+    assert_eq!(rt; wire.as_slice(), b"Q\0\0\0\x061\0".as_slice());
     Ok(())
 }

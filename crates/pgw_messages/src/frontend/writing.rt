@@ -1,0 +1,61 @@
+//! Writing a client's messages.
+
+ghost use Rattle.std.specs.Prelude.{◌≡◌, ◌++◌, OnOk, IfOk};
+ghost use Rattle.pgw_messages.specs.Frontend.{CanWriteFront, front_tag, front_body, front_frame};
+
+use crate::frontend::message::FrontMsg;
+use crate::writer::Writer;
+use pgw_frames::{Frame, NoMemory};
+use std::alloc::Global;
+
+fn tag_of(m: &FrontMsg) -> u8
+    ensures { result ≡ front_tag m.now }
+{
+    match m {
+        FrontMsg::Query(_) => b'Q',
+        FrontMsg::Parse(_) => b'P',
+        FrontMsg::Bind(_) => b'B',
+        FrontMsg::Describe(_) => b'D',
+        FrontMsg::Execute(_) => b'E',
+        FrontMsg::Sync => b'S',
+        FrontMsg::Flush => b'H',
+        FrontMsg::Close(_) => b'C',
+        FrontMsg::Call(_) => b'F',
+        FrontMsg::CopyData(_) => b'd',
+        FrontMsg::CopyDone => b'c',
+        FrontMsg::CopyFail(_) => b'f',
+        FrontMsg::Password(_) => b'p',
+        FrontMsg::Terminate => b'X',
+    }
+}
+
+fn write_body(m: &FrontMsg, w: &mut Writer) -> Result<(), NoMemory>
+    requires { CanWriteFront m.now }
+    ensures { OnOk result (w.new ≡ w.old ++ front_body m.now) }
+{
+    match m {
+        FrontMsg::Query(text) | FrontMsg::CopyFail(text) => w.text(text),
+        FrontMsg::Parse(parse) => parse.write(w),
+        FrontMsg::Bind(bind) => bind.write(w),
+        FrontMsg::Describe(part) | FrontMsg::Close(part) => part.write(w),
+        FrontMsg::Execute(execute) => execute.write(w),
+        FrontMsg::Call(rest) | FrontMsg::CopyData(rest) | FrontMsg::Password(rest) => {
+            w.bytes(rest.as_slice())
+        }
+        FrontMsg::Sync | FrontMsg::Flush | FrontMsg::CopyDone | FrontMsg::Terminate => Ok(()),
+    }
+}
+
+/// The frame that a client's message is. Its body has at most 16,777,216 bytes, its texts have no zero
+/// byte, each list at most 65,535 items, and `kind` is one of its letters.
+pub fn write_front(alloc: Global, m: &FrontMsg) -> Result<Frame, NoMemory>
+    requires { CanWriteFront m.now }
+    ensures { IfOk result (λ f. f ≡ front_frame m.now) }
+{
+    let mut body = Writer::new(alloc);
+    write_body(m, &mut body)?;
+    Ok(Frame {
+        tag: tag_of(m),
+        body: body.into_bytes(),
+    })
+}

@@ -1,0 +1,114 @@
+//! Writing the fields of a message one after the other.
+
+ghost use Rattle.std.specs.Prelude.{◌≡◌, ◌≤◌, [], ◌∷◌, ◌++◌, length, OnOk};
+ghost use Rattle.std.specs.Int.{w16, w32, to_be_bytes};
+ghost use Rattle.std.specs.List.{flat_map};
+ghost use Rattle.pgw_messages.specs.Spelling.{text_bytes, signed_bytes, value_bytes, list_bytes};
+
+use crate::item::Item;
+use crate::items::Items;
+use pgw_frames::{Bytes, MOST_BODY, NoMemory, Text};
+use std::alloc::Global;
+use std::marker::Model;
+
+/// The bytes that were written so far. Contracts see them as a list.
+#[derive(Drop)]
+pub(crate) struct Writer {
+    out: Bytes,
+}
+
+impl Model for Writer {
+    ghost use Rattle.std.specs.Prelude.{List, ℕ};
+
+    ghost Value = { List ℕ };
+
+    ghost view = { λ w. w.out };
+}
+
+impl Writer {
+    pub(crate) fn new(alloc: Global) -> Writer
+        ensures { result ≡ [] }
+    {
+        Writer {
+            out: Bytes::new(alloc),
+        }
+    }
+
+    pub(crate) fn into_bytes(self) -> Bytes
+        ensures { result ≡ self }
+    {
+        self.out
+    }
+
+    pub(crate) fn bytes(&mut self, bytes: &[u8]) -> Result<(), NoMemory>
+        ensures { OnOk result (self.new ≡ self.old ++ bytes.now) }
+    {
+        self.out.extend(bytes)?;
+        Ok(())
+    }
+
+    pub(crate) fn u8(&mut self, n: u8) -> Result<(), NoMemory>
+        ensures { OnOk result (self.new ≡ self.old ++ n ∷ []) }
+    {
+        self.bytes(&[n])
+    }
+
+    pub(crate) fn u16(&mut self, n: u16) -> Result<(), NoMemory>
+        ensures { OnOk result (self.new ≡ self.old ++ to_be_bytes w16 n) }
+    {
+        self.bytes(&n.to_be_bytes())
+    }
+
+    pub(crate) fn u32(&mut self, n: u32) -> Result<(), NoMemory>
+        ensures { OnOk result (self.new ≡ self.old ++ to_be_bytes w32 n) }
+    {
+        self.bytes(&n.to_be_bytes())
+    }
+
+    pub(crate) fn i16(&mut self, n: i16) -> Result<(), NoMemory>
+        ensures { OnOk result (self.new ≡ self.old ++ signed_bytes w16 n) }
+    {
+        self.bytes(&n.to_be_bytes())
+    }
+
+    pub(crate) fn i32(&mut self, n: i32) -> Result<(), NoMemory>
+        ensures { OnOk result (self.new ≡ self.old ++ signed_bytes w32 n) }
+    {
+        self.bytes(&n.to_be_bytes())
+    }
+
+    /// A text and its zero byte.
+    pub(crate) fn text(&mut self, t: &Text) -> Result<(), NoMemory>
+        ensures { OnOk result (self.new ≡ self.old ++ text_bytes t.now) }
+    {
+        self.bytes(t.as_str().as_bytes())?;
+        self.u8(0)?;
+        Ok(())
+    }
+
+    /// The length of a value and the value, or -1 for NULL.
+    pub(crate) fn value(&mut self, v: &Option<Bytes>) -> Result<(), NoMemory>
+        requires { length (value_bytes v.now) ≤ MOST_BODY }
+        ensures { OnOk result (self.new ≡ self.old ++ value_bytes v.now) }
+    {
+        let Some(value) = v else {
+            return self.i32(-1);
+        };
+        self.u32(value.len() as u32)?;
+        self.bytes(value.as_slice())?;
+        Ok(())
+    }
+
+    /// The count of a list in 16 bits, and its items.
+    pub(crate) fn list<T: Item>(&mut self, items: &Items<T>) -> Result<(), NoMemory>
+        requires count { length items.now ≤ 65535 }
+        requires room { length (flat_map T.bytes items.now) ≤ MOST_BODY }
+        ensures { OnOk result (self.new ≡ self.old ++ list_bytes T.bytes items.now) }
+    {
+        self.u16(items.len() as u16)?;
+        for item in items.as_slice() {
+            item.write(self)?;
+        }
+        Ok(())
+    }
+}
