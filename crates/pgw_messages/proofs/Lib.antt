@@ -4,3 +4,12 @@ pub mod Lists
 pub mod Ended
 pub mod FieldLemmas
 pub mod Writing
+pub mod Codecs
+pub mod FrontCodecs
+pub mod BackCodecs
+pub mod EndedCodecs
+pub mod Arms
+pub mod FrontLaws
+pub mod BackLaws
+pub mod ParamsAgain
+pub mod CanBeWritten

@@ -1,5 +1,6 @@
 -- The messages of a server (PostgreSQL manual, Message Formats).
-use Rattle.std.specs.Prelude.{◌≡◌, ◌==◌, ℕ, ◌≤◌, Bool, true, ◌||◌, List, [], ◌∷◌, ◌++◌, length, Result, Ok, Err, if◌then◌else◌}
+use Rattle.std.specs.Prelude.{◌≡◌, ◌==◌, ℕ, ◌<◌, ◌≤◌, ◌^◌, Bool, true, ◌||◌, List, [], ◌∷◌, ◌++◌, length, Result, Ok, Err, if◌then◌else◌}
+use Rattle.std.specs.Int.RustNames.{FitsSigned}
 use Rattle.std.specs.List.{AllByRecursion}
 use Rattle.std.specs.Int.{w16, w32, to_be_bytes}
 use Rattle.pgw_frames.specs.declared.frame.Frame.{Frame}
@@ -13,14 +14,17 @@ use Rattle.pgw_messages.specs.declared.backend.notify.NotifyMsg.{NotifyMsg}
 use Rattle.pgw_messages.specs.declared.backend.message.BackMsg.{BackMsg}
 use Rattle.pgw_messages.specs.declared.backend.message.BackMsg.TheVariants as back
 use Rattle.pgw_messages.specs.Reading.{Read, ◌>>=◌, mapped, byte_at, number_at, signed_at, remaining_at, value_at, text_at, list_at, whole}
-use Rattle.pgw_messages.specs.Spelling.{text_bytes, signed_bytes, value_bytes, list_bytes, HasNoZero}
-use Rattle.pgw_messages.specs.Fields.{fields_at, fields_bytes, CanWriteField}
-use Rattle.pgw_messages.specs.Startup.{pair_at, pair_bytes}
+use Rattle.pgw_messages.specs.Spelling.{text_bytes, signed_bytes, value_bytes, list_bytes, HasNoZero, IsText, IsValue, IsList}
+use Rattle.pgw_messages.specs.Fields.{fields_at, fields_bytes, IsField, CanWriteField}
+use Rattle.pgw_messages.specs.Startup.{pair_at, pair_bytes, IsPair}
 
 -- ---- bodies
 
 abbrev pub auth_bytes : AuthMsg → List ℕ
 auth_bytes m = to_be_bytes w32 m.code ++ m.rest
+
+pub record IsAuth (m : AuthMsg) : Type 0 where
+  pub code : m.code < 2 ^ 32
 
 abbrev pub auth_at : List ℕ → Read AuthMsg
 auth_at b = do
@@ -36,6 +40,10 @@ key_at b = do
 
 abbrev pub key_bytes : PodKey → List ℕ
 key_bytes m = to_be_bytes w32 m.process ++ to_be_bytes w32 m.secret
+
+pub record IsKey (m : PodKey) : Type 0 where
+  pub process : m.process < 2 ^ 32
+  pub secret : m.secret < 2 ^ 32
 
 -- `I` outside a transaction, `T` inside one, `E` inside a failed one
 abbrev pub is_state : ℕ → Bool
@@ -60,6 +68,15 @@ column_at b = do
 abbrev pub column_bytes : Column → List ℕ
 column_bytes c = text_bytes c.name ++ to_be_bytes w32 c.table ++ to_be_bytes w16 c.column ++ to_be_bytes w32 c.kind ++ signed_bytes w16 c.size ++ signed_bytes w32 c.modifier ++ to_be_bytes w16 c.format
 
+pub record IsColumn (c : Column) : Type 0 where
+  pub name : IsText c.name
+  pub table : c.table < 2 ^ 32
+  pub column : c.column < 2 ^ 16
+  pub kind : c.kind < 2 ^ 32
+  pub size : FitsSigned w16 c.size
+  pub modifier : FitsSigned w32 c.modifier
+  pub format : c.format < 2 ^ 16
+
 abbrev pub notify_at : List ℕ → Read NotifyMsg
 notify_at b = do
   process ← number_at w32 b
@@ -70,6 +87,11 @@ notify_at b = do
 abbrev pub notify_bytes : NotifyMsg → List ℕ
 notify_bytes m = to_be_bytes w32 m.process ++ text_bytes m.channel ++ text_bytes m.payload
 
+pub record IsNotify (m : NotifyMsg) : Type 0 where
+  pub process : m.process < 2 ^ 32
+  pub channel : IsText m.channel
+  pub payload : IsText m.payload
+
 abbrev pub copy_at : List ℕ → Read CopyMsg
 copy_at b = do
   format ← byte_at b
@@ -78,6 +100,10 @@ copy_at b = do
 
 abbrev pub copy_bytes : CopyMsg → List ℕ
 copy_bytes m = m.format ∷ [] ++ list_bytes (to_be_bytes w16) m.formats
+
+pub record IsCopy (m : CopyMsg) : Type 0 where
+  pub format : m.format < 256
+  pub formats : IsList (λ n. n < 2 ^ 16) m.formats
 
 -- ---- messages
 
@@ -171,6 +197,27 @@ back_body (back.CopyIn m) = copy_bytes m
 -- the frame that a message is
 abbrev pub back_frame : BackMsg → Frame
 back_frame m = record { tag = back_tag m; body = back_body m }
+
+-- a message with a spelling: its texts are texts, its numbers have their width, and its lists a count
+abbrev pub IsBack : BackMsg → Type 0
+IsBack (back.Auth m) = IsAuth m
+IsBack (back.Status m) = IsPair m
+IsBack (back.Key m) = IsKey m
+IsBack (back.Ready state) = is_state state ≡ true
+IsBack (back.Columns cs) = IsList IsColumn cs
+IsBack (back.Row vs) = IsList IsValue vs
+IsBack (back.Complete t) = IsText t
+IsBack back.Empty = Unit {0}
+IsBack (back.Fault fs) = AllByRecursion IsField fs
+IsBack (back.Notice fs) = AllByRecursion IsField fs
+IsBack (back.Notify m) = IsNotify m
+IsBack back.ParseDone = Unit {0}
+IsBack back.BindDone = Unit {0}
+IsBack back.CloseDone = Unit {0}
+IsBack (back.ParamTypes ts) = IsList (λ n. n < 2 ^ 32) ts
+IsBack back.NoRows = Unit {0}
+IsBack back.Suspended = Unit {0}
+IsBack (back.CopyIn m) = IsCopy m
 
 -- texts have no zero byte, a list has a count of 16 bits, the state is one of its letters, and no field's code is 0
 abbrev pub HasBackFields : BackMsg → Type 0

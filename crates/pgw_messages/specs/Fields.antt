@@ -3,7 +3,7 @@ use Rattle.std.specs.Prelude.{ℕ, ◌<◌, List, [], ◌∷◌, ◌++◌, lengt
 use Rattle.std.specs.List.{flat_map}
 use Rattle.pgw_messages.specs.declared.backend.fields.Field.{Field}
 use Rattle.pgw_messages.specs.Reading.{Read, ◌>>=◌, byte_at, text_at, ended_at}
-use Rattle.pgw_messages.specs.Spelling.{text_bytes, HasNoZero}
+use Rattle.pgw_messages.specs.Spelling.{text_bytes, HasNoZero, IsText}
 
 -- a byte that says what the field is, and a text
 abbrev pub field_at : List ℕ → Read Field
@@ -14,6 +14,12 @@ field_at b = do
 
 abbrev pub field_bytes : Field → List ℕ
 field_bytes f = f.code ∷ [] ++ text_bytes f.value
+
+-- a field that can be told from the end of the list
+pub record IsField (f : Field) : Type 0 where
+  pub some : 0 < f.code
+  pub code : f.code < 256
+  pub value : IsText f.value
 
 -- fields up to a zero byte
 unfoldable pub fields_at : List ℕ → Read (List Field)

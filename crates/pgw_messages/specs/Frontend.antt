@@ -1,5 +1,5 @@
 -- The messages of a client (PostgreSQL manual, Message Formats).
-use Rattle.std.specs.Prelude.{◌≡◌, ◌==◌, ℕ, ◌≤◌, Bool, true, ◌||◌, List, [], ◌∷◌, ◌++◌, length, Result, Ok, Err, if◌then◌else◌}
+use Rattle.std.specs.Prelude.{◌≡◌, ◌==◌, ℕ, ◌<◌, ◌≤◌, ◌^◌, Bool, true, ◌||◌, List, [], ◌∷◌, ◌++◌, length, Result, Ok, Err, if◌then◌else◌}
 use Rattle.std.specs.Int.{w16, w32, to_be_bytes}
 use Rattle.pgw_frames.specs.declared.frame.Frame.{Frame}
 use Rattle.pgw_messages.specs.declared.fault.MsgFault.{MsgFault}
@@ -11,7 +11,7 @@ use Rattle.pgw_messages.specs.declared.frontend.execute.ExecuteMsg.{ExecuteMsg}
 use Rattle.pgw_messages.specs.declared.frontend.message.FrontMsg.{FrontMsg}
 use Rattle.pgw_messages.specs.declared.frontend.message.FrontMsg.TheVariants as front
 use Rattle.pgw_messages.specs.Reading.{Read, ◌>>=◌, mapped, byte_at, number_at, remaining_at, value_at, text_at, list_at, whole}
-use Rattle.pgw_messages.specs.Spelling.{text_bytes, value_bytes, list_bytes, HasNoZero}
+use Rattle.pgw_messages.specs.Spelling.{text_bytes, value_bytes, list_bytes, HasNoZero, IsText, IsValue, IsList}
 
 -- ---- bodies
 
@@ -25,6 +25,11 @@ parse_at b = do
 abbrev pub parse_bytes : ParseMsg → List ℕ
 parse_bytes m = text_bytes m.name ++ text_bytes m.query ++ list_bytes (to_be_bytes w32) m.types
 
+pub record IsParse (m : ParseMsg) : Type 0 where
+  pub name : IsText m.name
+  pub query : IsText m.query
+  pub types : IsList (λ n. n < 2 ^ 32) m.types
+
 abbrev pub bind_at : List ℕ → Read BindMsg
 bind_at b = do
   portal ← text_at b
@@ -36,6 +41,13 @@ bind_at b = do
 
 abbrev pub bind_bytes : BindMsg → List ℕ
 bind_bytes m = text_bytes m.portal ++ text_bytes m.statement ++ list_bytes (to_be_bytes w16) m.formats ++ list_bytes value_bytes m.values ++ list_bytes (to_be_bytes w16) m.results
+
+pub record IsBind (m : BindMsg) : Type 0 where
+  pub portal : IsText m.portal
+  pub statement : IsText m.statement
+  pub formats : IsList (λ n. n < 2 ^ 16) m.formats
+  pub values : IsList IsValue m.values
+  pub results : IsList (λ n. n < 2 ^ 16) m.results
 
 -- `S` for a statement, `P` for a portal
 abbrev pub is_part : ℕ → Bool
@@ -49,6 +61,10 @@ part_at b = do
 abbrev pub part_bytes : Part → List ℕ
 part_bytes m = m.kind ∷ [] ++ text_bytes m.name
 
+pub record IsPart (m : Part) : Type 0 where
+  pub kind : is_part m.kind ≡ true
+  pub name : IsText m.name
+
 abbrev pub execute_at : List ℕ → Read ExecuteMsg
 execute_at b = do
   portal ← text_at b
@@ -57,6 +73,10 @@ execute_at b = do
 
 abbrev pub execute_bytes : ExecuteMsg → List ℕ
 execute_bytes m = text_bytes m.portal ++ to_be_bytes w32 m.most
+
+pub record IsExecute (m : ExecuteMsg) : Type 0 where
+  pub portal : IsText m.portal
+  pub most : m.most < 2 ^ 32
 
 -- ---- messages
 
@@ -134,6 +154,23 @@ front_body front.Terminate = []
 -- the frame that a message is
 abbrev pub front_frame : FrontMsg → Frame
 front_frame m = record { tag = front_tag m; body = front_body m }
+
+-- a message with a spelling: its texts are texts, its numbers have their width, and its lists a count
+abbrev pub IsFront : FrontMsg → Type 0
+IsFront (front.Query t) = IsText t
+IsFront (front.Parse m) = IsParse m
+IsFront (front.Bind m) = IsBind m
+IsFront (front.Describe m) = IsPart m
+IsFront (front.Execute m) = IsExecute m
+IsFront front.Sync = Unit {0}
+IsFront front.Flush = Unit {0}
+IsFront (front.Close m) = IsPart m
+IsFront (front.Call b) = Unit {0}
+IsFront (front.CopyData b) = Unit {0}
+IsFront front.CopyDone = Unit {0}
+IsFront (front.CopyFail t) = IsText t
+IsFront (front.Password b) = Unit {0}
+IsFront front.Terminate = Unit {0}
 
 -- texts have no zero byte, a list has a count of 16 bits, and `kind` is one of its letters
 abbrev pub HasFrontFields : FrontMsg → Type 0

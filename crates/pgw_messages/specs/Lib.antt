@@ -5,3 +5,4 @@ pub mod Startup
 pub mod Fields
 pub mod Frontend
 pub mod Backend
+pub mod Laws

@@ -39,3 +39,9 @@ IsValue (Some v) = length v < 2 ^ 31
 pub record IsList {A : Type 0} (Is : A → Type 0) (xs : List A) : Type 0 where
   pub count : length xs ≤ 65535
   pub each : AllByRecursion Is xs
+
+-- the message's type and body are these
+pub record Spells {M : Type 0} (tag_of : M → ℕ) (body_of : M → List ℕ) (Is : M → Type 0) (t : ℕ) (b : List ℕ) (m : M) : Type 0 where
+  pub good : Is m
+  pub tag : t ≡ tag_of m
+  pub body : b ≡ body_of m

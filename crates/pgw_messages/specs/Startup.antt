@@ -1,11 +1,12 @@
 -- The startup packet (PostgreSQL manual, Message Formats, StartupMessage): a length that counts itself, the
 -- version 3.0, the parameters as zero-ended names and values, and a zero byte.
-use Rattle.std.specs.Prelude.{ℕ, ◌+◌, ◌≤◌, List, [], ◌∷◌, ◌++◌, length, Result, Ok}
+use Rattle.std.specs.Prelude.{ℕ, ◌+◌, ◌<◌, ◌≤◌, List, [], ◌∷◌, ◌++◌, length, Result, Ok}
 use Rattle.std.specs.Int.{w32, to_be_bytes}
 use Rattle.std.specs.List.{flat_map}
 use Rattle.pgw_messages.specs.declared.params.Pair.{Pair}
 use Rattle.pgw_messages.specs.declared.fault.MsgFault.{MsgFault}
 use Rattle.pgw_messages.specs.Params.{put_all}
+use Rattle.pgw_messages.specs.Spelling.{IsText}
 use Rattle.pgw_messages.specs.Reading.{Read, ◌>>=◌, text_at, ended_at, whole}
 
 abbrev pub pair_bytes : Pair → List ℕ
@@ -21,6 +22,10 @@ startup_packet p = to_be_bytes w32 (length (startup_body p) + 4) ++ startup_body
 abbrev pub Fits : List Pair → Type 0
 Fits p = length (startup_packet p) ≤ 11900000
 
+-- what stands behind the version
+abbrev pub params_bytes : List Pair → List ℕ
+params_bytes p = flat_map pair_bytes p ++ 0 ∷ []
+
 -- ---- the parameters as they are read
 
 abbrev pub pair_at : List ℕ → Read Pair
@@ -28,6 +33,10 @@ pair_at b = do
   name ← text_at b
   value ← text_at name.1
   Ok (record { name = name.0; value = value.0 }, value.1)
+
+pub record IsPair (q : Pair) : Type 0 where
+  pub name : IsText q.name
+  pub value : IsText q.value
 
 -- pairs up to a zero byte
 unfoldable pub pairs_at : List ℕ → Read (List Pair)
@@ -38,3 +47,8 @@ pairs_at b = do
 -- what stands behind the version
 unfoldable pub params_of : List ℕ → Result (List Pair) MsgFault
 params_of b = whole (pairs_at b)
+
+-- a pair that can be told from the end of the packet
+pub record IsParam (q : Pair) : Type 0 where
+  pub some : 0 < length q.name
+  pub pair : IsPair q

@@ -16,6 +16,7 @@ mod fault;
 mod frontend;
 mod item;
 mod items;
+mod laws;
 mod numbers;
 mod pair;
 mod params;
@@ -31,6 +32,7 @@ pub use backend::{
 pub use fault::MsgFault;
 pub use frontend::{BindMsg, ExecuteMsg, FrontMsg, ParseMsg, Part, read_front, write_front};
 pub use items::Items;
+pub use laws::{messages_are_read_again, messages_can_be_written, params_are_read_again};
 pub use numbers::{Formats, Types};
 pub use params::{Pair, Params};
 pub use pod_key::PodKey;

@@ -1,7 +1,10 @@
 //! Reading a server's messages.
 
-ghost use Rattle.pgw_messages.specs.Reading.{Gives, Reads};
-ghost use Rattle.pgw_messages.specs.Backend.{back_at, back_of};
+ghost use Rattle.std.specs.Prelude.{◌≡◌, IfOk, Ok};
+ghost use Rattle.pgw_messages.specs.Reading.{Gives, Reads, whole};
+ghost use Rattle.pgw_messages.specs.Spelling.{Spells};
+ghost use Rattle.pgw_messages.specs.Backend.{back_at, back_of, back_tag, back_body, back_frame, IsBack};
+ghost use Rattle.pgw_messages.specs.declared.backend.message.BackMsg.{BackMsg};
 
 use crate::backend::auth::AuthMsg;
 use crate::backend::columns::Column;
@@ -43,14 +46,27 @@ fn read_body(tag: u8, r: &mut Reader<'_>) -> Result<BackMsg, MsgFault>
     }
 }
 
+/// Reads a whole body.
+fn read_whole(alloc: Global, tag: u8, body: &[u8]) -> Result<BackMsg, MsgFault>
+    ensures value { Gives result (whole (back_at tag body.now)) }
+    ensures found { IfOk result (Spells back_tag back_body IsBack tag body.now) }
+{
+    let mut r = Reader::new(alloc, body);
+    let message = read_body(tag, &mut r)?;
+    r.finish()?;
+    Ok(message)
+}
+
 /// Reads a server's message. The refusal is the first fault from the type byte to the last byte of
 /// the body, each field in turn. `Trailing` comes after all fields.
 #[tactic(auto, unfolding(crate::specs::Backend::back_of))]
 pub fn read_back(alloc: Global, f: &Frame) -> Result<BackMsg, MsgFault>
-    ensures { Gives result (back_of f.now) }
+    // Which message it is, or which fault.
+    ensures value { Gives result (back_of f.now) }
+    // What is read is spelled so.
+    ensures found { IfOk result (λ m. IsBack m × (f.now ≡ back_frame m)) }
+    // What is spelled so is read, unless memory runs out.
+    ensures only { (m : BackMsg) → IsBack m → f.now ≡ back_frame m → Gives result (Ok m) }
 {
-    let mut r = Reader::new(alloc, f.body.as_slice());
-    let message = read_body(f.tag, &mut r)?;
-    r.finish()?;
-    Ok(message)
+    read_whole(alloc, f.tag, f.body.as_slice())
 }
