@@ -1,7 +1,27 @@
-use crate::{FrontMsg, MsgFault, read_front, write_front};
+use crate::{BindMsg, FrontMsg, Items, MsgFault, read_front, write_front};
 use pgw_frames::{Bytes, Frame, Text, write_frame};
 use std::alloc::Global;
 use std::test::*;
+
+/// Messages by the manual's formats: type and body.
+const SAMPLES: [(u8, &[u8]); 13] = [
+    (b'Q', b"SELECT 1\0"),
+    (b'P', b"s\0SELECT $1\0\0\x01\0\0\0\x14"),
+    (
+        b'B',
+        b"\0s\0\0\x01\0\0\0\x02\xff\xff\xff\xff\0\0\0\x01x\0\x01\0\x01",
+    ),
+    (b'D', b"Ss\0"),
+    (b'E', b"\0\0\0\0\x05"),
+    (b'S', b""),
+    (b'H', b""),
+    (b'C', b"P\0"),
+    (b'c', b""),
+    (b'f', b"no\0"),
+    (b'X', b""),
+    (b'Q', b"\xc3\xa4\0"),
+    (b'P', b"\0\0\0\0"),
+];
 
 /// The fault of a client's message of this type and body.
 fn fault(alloc: Global, tag: u8, body: &[u8]) -> Result<Option<MsgFault>, Fail> {
@@ -10,17 +30,69 @@ fn fault(alloc: Global, tag: u8, body: &[u8]) -> Result<Option<MsgFault>, Fail> 
 }
 
 #[test]
+fn every_cut_is_short(rt: HostRuntime) -> Result<(), Fail> {
+    for (tag, body) in SAMPLES {
+        assert_eq!(rt; fault(rt.alloc(), tag, body)?, None, "{tag} {body:?}");
+        for len in 0..body.len() {
+            let cut = &body[..len];
+            assert_eq!(rt;
+                fault(rt.alloc(), tag, cut)?,
+                Some(MsgFault::Short),
+                "{tag} {cut:?}"
+            );
+        }
+    }
+    Ok(())
+}
+
+#[test]
+fn one_byte_more_is_trailing(rt: HostRuntime) -> Result<(), Fail> {
+    for (tag, body) in SAMPLES {
+        let mut longer = Bytes::of(rt.alloc(), body)?;
+        longer.extend(b"\0")?;
+        let fault = fault(rt.alloc(), tag, longer.as_slice())?;
+        assert_eq!(rt; fault, Some(MsgFault::Trailing), "{tag} {body:?}");
+    }
+    Ok(())
+}
+
+#[test]
 fn faults_of_client_messages(rt: HostRuntime) -> Result<(), Fail> {
-    let rows: [(u8, &[u8], Option<MsgFault>); 6] = [
-        (b'Q', b"1\0", None),
-        (b'Q', b"1", Some(MsgFault::Short)),
-        (b'Q', b"1\x002", Some(MsgFault::Trailing)),
-        (b'Q', b"\xff\0", Some(MsgFault::NotText)),
-        (b'D', b"X\0", Some(MsgFault::BadValue)),
-        (b'!', b"", Some(MsgFault::UnknownTag(33))),
+    let rows: [(u8, &[u8], MsgFault); 16] = [
+        (b'Q', b"1", MsgFault::Short),
+        (b'Q', b"1\x002", MsgFault::Trailing),
+        (b'Q', b"\xff\0", MsgFault::NotText),
+        (b'Q', b"\xff\x002", MsgFault::NotText),
+        (b'D', b"X\0", MsgFault::BadValue),
+        (b'D', b"X", MsgFault::BadValue),
+        (b'C', b"s\0", MsgFault::BadValue),
+        (b'!', b"", MsgFault::UnknownTag(33)),
+        (b'R', b"\0\0\0\0", MsgFault::UnknownTag(82)),
+        // A count too large, too small, and of all that 16 bits hold.
+        (b'P', b"\0\0\0\x02\0\0\0\x14", MsgFault::Short),
+        (b'P', b"\0\0\0\0\0\0\0\x14", MsgFault::Trailing),
+        (b'P', b"\0\0\x01\0\0\0\0\x14", MsgFault::Short),
+        // A length too large, too small, and below that of NULL.
+        (b'B', b"\0\0\0\0\0\x01\0\0\0\x04x\0\0", MsgFault::Short),
+        (b'B', b"\0\0\0\0\0\x01\0\0\0\0x\0\0", MsgFault::Short),
+        (
+            b'B',
+            b"\0\0\0\0\0\x01\xff\xff\xff\xfe\0\0",
+            MsgFault::BadValue,
+        ),
+        (b'B', b"\0\0\0\0\0\x01\x80\0\0\0\0\0", MsgFault::BadValue),
     ];
     for (tag, body, want) in rows {
-        assert_eq!(rt; fault(rt.alloc(), tag, body)?, want, "{tag} {body:?}");
+        assert_eq!(rt; fault(rt.alloc(), tag, body)?, Some(want), "{tag} {body:?}");
+    }
+    Ok(())
+}
+
+#[test]
+fn all_bytes_are_kept_unread(rt: HostRuntime) -> Result<(), Fail> {
+    for tag in [b'F', b'd', b'p'] {
+        assert_eq!(rt; fault(rt.alloc(), tag, b"")?, None, "{tag}");
+        assert_eq!(rt; fault(rt.alloc(), tag, b"\xff\0\0x")?, None, "{tag}");
     }
     Ok(())
 }
@@ -34,11 +106,46 @@ fn a_query_has_its_text(rt: HostRuntime) -> Result<(), Fail> {
 }
 
 #[test]
+fn null_is_no_empty_value(rt: HostRuntime) -> Result<(), Fail> {
+    let body = b"\0\0\0\0\0\x02\xff\xff\xff\xff\0\0\0\0\0\0";
+    let body = Bytes::of(rt.alloc(), body)?;
+    let message = read_front(rt.alloc(), &Frame { tag: b'B', body })?;
+    let FrontMsg::Bind(bind) = &message else {
+        return Err("a Bind")?;
+    };
+    assert_eq!(rt; bind.values.len(), 2);
+    assert_eq!(rt; bind.values.get(0).map(|v| v.is_none()), Some(true));
+    assert_eq!(rt; bind.values.get(1).map(|v| v.is_some()), Some(true));
+    Ok(())
+}
+
+#[test]
 fn a_query_on_the_wire(rt: HostRuntime) -> Result<(), Fail> {
     let query = FrontMsg::Query(Text::of(rt.alloc(), "1")?);
     let frame = write_front(rt.alloc(), &query)?;
     let mut wire = Bytes::new(rt.alloc());
     write_frame(&frame, &mut wire)?;
     assert_eq!(rt; wire.as_slice(), b"Q\0\0\0\x061\0".as_slice());
+    Ok(())
+}
+
+#[test]
+fn a_bind_on_the_wire(rt: HostRuntime) -> Result<(), Fail> {
+    let mut formats = Items::new(rt.alloc());
+    formats.push(1)?;
+    let mut values = Items::new(rt.alloc());
+    values.push(None)?;
+    values.push(Some(Bytes::of(rt.alloc(), b"xy")?))?;
+    let bind = FrontMsg::Bind(BindMsg {
+        portal: Text::of(rt.alloc(), "p")?,
+        statement: Text::of(rt.alloc(), "")?,
+        formats,
+        values,
+        results: Items::new(rt.alloc()),
+    });
+    let frame = write_front(rt.alloc(), &bind)?;
+    let want = b"p\0\0\0\x01\0\x01\0\x02\xff\xff\xff\xff\0\0\0\x02xy\0\0";
+    assert_eq!(rt; frame.tag, b'B');
+    assert_eq!(rt; frame.body.as_slice(), want.as_slice());
     Ok(())
 }

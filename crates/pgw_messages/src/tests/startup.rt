@@ -1,4 +1,4 @@
-use crate::{Params, read_params, startup_bytes};
+use crate::{MsgFault, Params, read_params, startup_bytes};
 use std::test::*;
 
 #[test]
@@ -31,5 +31,23 @@ fn parameters_with_a_name_twice(rt: HostRuntime) -> Result<(), Fail> {
     let p = read_params(rt.alloc(), b"user\0a\0user\0b\0\0")?;
     assert_eq!(rt; p.len(), 1);
     assert_eq!(rt; p.value("user").map(|v| v == "b"), Some(true));
+    Ok(())
+}
+
+#[test]
+fn faults_of_parameters(rt: HostRuntime) -> Result<(), Fail> {
+    let rows: [(&[u8], Option<MsgFault>); 8] = [
+        (b"\0", None),
+        (b"user\0\0\0", None),
+        (b"", Some(MsgFault::Short)),
+        (b"user\0a\0", Some(MsgFault::Short)),
+        (b"user\0a", Some(MsgFault::Short)),
+        (b"user\0\0", Some(MsgFault::Short)),
+        (b"user\0a\0\0\0", Some(MsgFault::Trailing)),
+        (b"user\0\xff\0\0", Some(MsgFault::NotText)),
+    ];
+    for (body, want) in rows {
+        assert_eq!(rt; read_params(rt.alloc(), body).err(), want, "{body:?}");
+    }
     Ok(())
 }
