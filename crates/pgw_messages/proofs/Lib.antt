@@ -3,3 +3,4 @@ pub mod Texts
 pub mod Lists
 pub mod Ended
 pub mod FieldLemmas
+pub mod Taken

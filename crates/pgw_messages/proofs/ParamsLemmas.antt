@@ -51,7 +51,7 @@ bytes_ne-sym : (a b : List ℕ) (x : Bool) → bytes_eq a b ≡ false → bytes_
 bytes_ne-sym a b true f e = let same : b ≡ a = (bytes_eq-Decides b a).0 e in let t : bytes_eq a b ≡ true = (bytes_eq-Decides a b).1 (sym same) in absurd cc
 bytes_ne-sym a b false f e = refl
 
-none_parts : (b : Bool) (v : List ℕ) (o : Option (List ℕ)) → (if b then Some v else o) ≡ None → (b ≡ false) × (o ≡ None)
+pub none_parts : (b : Bool) (v : List ℕ) (o : Option (List ℕ)) → (if b then Some v else o) ≡ None → (b ≡ false) × (o ≡ None)
 none_parts true v o e = absurd cc
 none_parts false v o e = (refl, e)
 
