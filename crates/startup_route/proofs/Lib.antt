@@ -1,0 +1,4 @@
+pub mod PacketLemmas
+pub mod OpeningLemmas
+pub mod TenantLemmas
+pub mod ClusterLemmas
