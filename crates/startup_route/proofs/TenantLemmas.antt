@@ -1,26 +1,26 @@
 -- A name at its last dash, and the number behind it.
 use Rattle.std.proofs.Common.{◌≡◌, ◌≢◌, ◌∙◌, ℕ, ◌+◌, ◌-◌, ◌<◌, ◌≤◌, ◌^◌, Bool, true, false, List, [], ◌∷◌, length, take, drop, get_or, Some, None, Result, Ok, Err, refl, sym, ap, arith, true≢false}
-use Rattle.std.specs.Prelude.{◌==◌, nat_lt, ◌&&◌, not}
+use Rattle.std.specs.Prelude.{◌==◌, nat_lt, ◌&&◌}
 use Rattle.std.specs.Result.{OkIff, result_ok}
-use Rattle.std.specs.List.{before_last, after_last, suffix_len}
+use Rattle.std.specs.List.{before_last, after_last}
 use Rattle.std.specs.Str.{all_ascii_digits, NoCharPasses}
 use Rattle.std.specs.Str.Parse.{digits_value, ParsesUnsigned}
 use Rattle.std.specs.Str.Pattern.{RFindsChar, HasCharAt, SplitsAroundMatch}
-use Rattle.std.proofs.lemmas.Bool.{ltb-true, lt-ltb, le-ltb, eqb-true, eqb-false, eq-eqb, ne_eqb}
+use Rattle.std.proofs.lemmas.Bool.{ltb-true, lt-ltb, le-ltb, eqb-true, eqb-false}
 use Rattle.std.proofs.lemmas.List.{length-drop, get_or-drop}
-use Rattle.std.proofs.lemmas.List.Sums.{suffix_len_is}
 use Rattle.std.proofs.lemmas.Str.Parse.{parse_plain, numerals_by_value, tells_all_ascii_digits}
 use Rattle.std.proofs.lemmas.Str.Pattern.{NoCharPasses-char}
+use Rattle.startup_route.proofs.LastDash.{DashAt, no_parts, parts}
 use Rattle.startup_route.specs.Tenants.{is_dash, begins_number, number_of, number_behind}
 
 -- ---- the number
 
-and_first : (x y : Bool) → (x && y) ≡ true → x ≡ true
+pub and_first : (x y : Bool) → (x && y) ≡ true → x ≡ true
 and_first true y h = refl
 and_first false y h = absurd (true≢false (sym h))
 
 -- the first byte of a number is no sign
-first_digit : (text : List ℕ) → begins_number text ≡ true → (0 < length text) × (get_or text 0 0 ≢ 43)
+pub first_digit : (text : List ℕ) → begins_number text ≡ true → (0 < length text) × (get_or text 0 0 ≢ 43)
 first_digit [] h = absurd (true≢false (sym h))
 first_digit (c ∷ cs) h =
     let digit : 48 < c = ltb-true 48 c (and_first _ _ h) in
@@ -44,32 +44,24 @@ number_parsed text r b h =
 
 -- ---- the last dash
 
-pub no_dash : (name : List ℕ) → NoCharPasses (λ d. d == 45) name → before_last is_dash name ≡ []
-no_dash name h =
-    let all : suffix_len (λ x. not (is_dash x)) name ≡ length name - 0 = suffix_len_is (λ x. not (is_dash x)) name 0 0 (omega arith)
-    (λ k lo lt. let ne : is_dash (get_or name k 0) ≡ false = ne_eqb _ _ (NoCharPasses-char 45 name k h (omega arith) lt) in rw ne refl) (λ lt. absurd (omega (arith, lt))) in
-    let none : length name - suffix_len (λ x. not (is_dash x)) name - 1 ≡ 0 = omega (arith, all) in
-    rw none refl
+no_dash : (name : List ℕ) → NoCharPasses (λ d. d == 45) name → before_last is_dash name ≡ []
+no_dash name h = no_parts name (λ k lt. NoCharPasses-char 45 name k h (omega arith) lt)
 
 -- the last dash stands at i, and j is the place behind it
-pub at_dash : (name : List ℕ) (i j : ℕ) → NoCharPasses (λ d. d == 45) (drop j name) → HasCharAt 45 name i j → j ≤ length name
+at_dash : (name : List ℕ) (i j : ℕ) → NoCharPasses (λ d. d == 45) (drop j name) → HasCharAt 45 name i j → j ≤ length name
     → (before_last is_dash name ≡ take i name) × (after_last is_dash name ≡ drop j name)
 at_dash name i j none at within =
     let next : j ≡ i + 1 = at.ends in
-    let behind : suffix_len (λ x. not (is_dash x)) name ≡ length name - j = suffix_len_is (λ x. not (is_dash x)) name j 0 within
-    (λ k lo lt.
-    let place : j + (k - j) ≡ k = omega (arith, lo) in
-    let there : k - j < length (drop j name) = omega (arith, length-drop j name, lo, lt) in
-    let ne : get_or name k 0 ≢ 45 = rw (get_or-drop j name (k - j) 0, place) at (NoCharPasses-char 45 (drop j name) (k - j) none (omega arith) there) in
-    let no : is_dash (get_or name k 0) ≡ false = ne_eqb _ _ ne in
-    rw no refl)
-    (λ some.
-    let place : j - 1 ≡ i = omega (arith, next) in
-    let yes : is_dash (get_or name i 0) ≡ true = eq-eqb _ _ (at.byte (omega arith)) in
-    rw (place, yes) refl) in
-    let before : length name - suffix_len (λ x. not (is_dash x)) name - 1 ≡ i = omega (arith, behind, within, next) in
-    let start : length name - suffix_len (λ x. not (is_dash x)) name ≡ j = omega (arith, behind, within) in
-    (rw before refl, rw start refl)
+    let dash : DashAt name i = record {
+      within = omega (arith, next, within);
+      here = at.byte (omega arith);
+      last = λ k lo lt.
+          let place : j + (k - j) ≡ k = omega (arith, lo, next) in
+          let there : k - j < length (drop j name) = omega (arith, length-drop j name, lo, lt, next) in
+          rw (get_or-drop j name (k - j) 0, place) at (NoCharPasses-char 45 (drop j name) (k - j) none (omega arith) there);
+    } in
+    let p = parts name i dash in
+    (p.0, p.1 ∙ ap (λ (n : ℕ). drop n name) (sym next))
 
 pub no_number : (name : List ℕ) → NoCharPasses (λ d. d == 45) name → None ≡ number_behind name
 no_number name h = rw (no_dash name h) refl

@@ -1,5 +1,6 @@
 -- The tenant at the end of a cluster's name: behind the last dash, in decimal.
-use Rattle.std.specs.Prelude.{◌==◌, ℕ, ◌^◌, ◌&&◌, nat_lt, Bool, if◌then◌else◌, List, length, Option, Some, None, slice_index}
+use Rattle.std.specs.Prelude.{◌≡◌, ◌↔◌, ◌==◌, ℕ, ◌^◌, ◌<◌, ◌&&◌, nat_lt, Bool, if◌then◌else◌, List, ◌∷◌, ◌++◌, length, Option, Some, None, slice_index}
+use Rattle.std.specs.Fmt.{decimal}
 use Rattle.std.specs.List.{before_last, after_last}
 use Rattle.std.specs.Str.{all_ascii_digits}
 use Rattle.std.specs.Str.Parse.{digits_value}
@@ -18,3 +19,16 @@ number_of text = if begins_number text && (all_ascii_digits text && nat_lt (digi
 -- the number behind the last dash, with at least one byte before that dash
 abbrev pub number_behind : List ℕ → Option ℕ
 number_behind name = if nat_lt 0 (length (before_last is_dash name)) then number_of (after_last is_dash name) else None
+
+-- ---- a law
+
+-- the name is something, a dash and the number in decimal
+pub record EndsIn (name : List ℕ) (n : ℕ) : Type 0 where
+  pub front : List ℕ
+  pub some : 0 < length front
+  pub spelled : name ≡ front ++ 45 ∷ decimal n
+  pub least : 0 < n
+  pub most : n < 2 ^ 32
+
+abbrev pub NumbersStandLast : Type 0
+NumbersStandLast = (name : List ℕ) (n : ℕ) → (number_behind name ≡ Some n) ↔ EndsIn name n

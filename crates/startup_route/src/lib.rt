@@ -24,7 +24,7 @@ mod tenant;
 
 pub use door::Door;
 pub use fault::{DoorFault, FaultText};
-pub use laws::{each_wanted_byte_is_needed, nothing_behind_it_counts};
+pub use laws::{each_wanted_byte_is_needed, nothing_behind_it_counts, numbers_stand_last};
 pub use step::{DoorStep, Route};
 
 #[cfg(test)]
