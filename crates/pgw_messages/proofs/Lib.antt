@@ -13,3 +13,4 @@ pub mod FrontLaws
 pub mod BackLaws
 pub mod ParamsAgain
 pub mod CanBeWritten
+pub mod Taken

@@ -1,5 +1,5 @@
 -- The parameters of a session.
-use Rattle.std.specs.Prelude.{◌≡◌, ℕ, Bool, List, [], ◌∷◌, Option, Some, None, if◌then◌else◌}
+use Rattle.std.specs.Prelude.{◌≡◌, ℕ, Bool, List, [], ◌∷◌, Option, Some, None, filter, not, if◌then◌else◌}
 use Rattle.std.specs.Str.{bytes_eq}
 use Rattle.pgw_messages.specs.declared.params.Pair.{Pair}
 
@@ -24,3 +24,7 @@ put_all p (q ∷ qs) = put_all (with_value q.name q.value p) qs
 abbrev pub HasDistinctNames : List Pair → Type 0
 HasDistinctNames [] = Unit {0}
 HasDistinctNames (q ∷ p) = (value_of q.name p ≡ None) × HasDistinctNames p
+
+-- the pairs of all other names
+abbrev pub without : List ℕ → List Pair → List Pair
+without name p = filter (λ q. not (is_named name q)) p

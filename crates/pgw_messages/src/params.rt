@@ -2,7 +2,7 @@
 
 ghost use Rattle.std.specs.Prelude.{◌≡◌, ◌==◌, [], length, position, slice_get, OnOk, OnErr};
 ghost use Rattle.std.specs.Option.{option_copied};
-ghost use Rattle.pgw_messages.specs.Params.{value_of, with_value, is_named};
+ghost use Rattle.pgw_messages.specs.Params.{value_of, with_value, without, is_named};
 
 use pgw_frames::{NoMemory, Text};
 use std::alloc::Global;
@@ -69,6 +69,13 @@ impl Params {
                 Ok(())
             }
         }
+    }
+
+    /// Takes a name and its value out, where it is there. It takes no memory.
+    pub fn remove(&mut self, name: &str)
+        ensures { self.new ≡ without name.now self.old }
+    {
+        self.pairs.retain(|q| q.name.as_str() != name);
     }
 
     /// The value of a name.

@@ -4,7 +4,7 @@ ghost use Rattle.proxy_outside.specs.Addr.{addr_of_v6};
 ghost use Rattle.std.specs.Prelude.{◌≡◌};
 
 /// An IP address, as the number that its bytes write, the highest byte first.
-#[derive(Clone, Copy, Debug, PartialEq, Eq)]
+#[derive(Clone, Copy, Debug, PartialEq, Eq, PartialOrd, Ord)]
 pub enum Addr {
     V4(u32),
     V6(u128),

@@ -1,0 +1,6 @@
+pub mod PacketLemmas
+pub mod OpeningLemmas
+pub mod TenantLemmas
+pub mod ClusterLemmas
+pub mod LastDash
+pub mod Spelled

@@ -1,0 +1,7 @@
+pub mod Texts
+pub mod Tenants
+pub mod Clusters
+pub mod Routes
+pub mod Packets
+pub mod Openings
+pub mod Doors
