@@ -1,18 +1,13 @@
 -- What the row of the old pod gives.
-use Rattle.std.proofs.Common.{◌≡◌, Bool, true, false, List, ℕ, Some, None, refl}
-use Rattle.std.specs.Prelude.{nat_lt, not, length, ◌&&◌}
+use Rattle.std.proofs.Common.{◌≡◌, true, false, List, ℕ, Some, None, refl}
 use Rattle.std.specs.Result.{result_ok}
 use Rattle.std.specs.declared.result.Result.{Result}
 use Rattle.std.specs.declared.result.Result.TheVariants.{Ok, Err}
-use Rattle.base64.specs.GeneralPurpose.{decode_of}
-use Rattle.base64.specs.Engines.{standard}
 use Rattle.base64.specs.declared.decode.DecodeError.{DecodeError}
 use Rattle.pgw_messages.specs.declared.params.Pair.{Pair}
-use Rattle.transfer_stages.specs.Exchange.{given, is_base64, packet}
+use Rattle.transfer_stages.specs.Exchange.{given}
 use Rattle.transfer_stages.specs.declared.stage.Said.TheVariants.{Given}
-
-abbrev pub can_be_taken : List Pair → List ℕ → List ℕ → Bool
-can_be_taken p b token = is_base64 (decode_of standard token) && (not (nat_lt 1048576 (length b)) && not (nat_lt 11900000 (length (packet p token))))
+use Rattle.transfer_exchange.specs.Packets.{can_be_taken}
 
 pub given_taken : (p : List Pair) (r : Result (List ℕ) DecodeError) (b token : List ℕ) → Some b ≡ result_ok r → true ≡ can_be_taken p b token → Some (Given b token) ≡ given p r token
 given_taken p (Err e) b token is t = absurd cc

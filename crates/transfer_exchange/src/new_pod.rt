@@ -1,6 +1,6 @@
 //! What the new pod's frames lead to: a greeting, then four frames, or an end where one isn't as expected.
 
-ghost use Rattle.std.specs.Prelude.{◌≡◌, List, ℕ};
+ghost use Rattle.std.specs.Prelude.{◌≡◌, List};
 ghost use Rattle.pgw_messages.specs.declared.params.Pair.{Pair as Param};
 ghost use Rattle.session_model.specs.declared.transfer.TransferKey.{TransferKey as Key};
 ghost use Rattle.transfer_stages.specs.Exchange as expected;

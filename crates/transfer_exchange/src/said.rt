@@ -1,6 +1,6 @@
 //! What the old pod's row says.
 
-ghost use Rattle.std.specs.Prelude.{◌≡◌, ◌&&◌, not, nat_lt, length, IfOk, if◌then◌else◌};
+ghost use Rattle.std.specs.Prelude.{◌≡◌, IfOk, if◌then◌else◌};
 ghost use Rattle.std.specs.Result.{result_ok};
 ghost use Rattle.std.specs.Option.{option_copied};
 ghost use Rattle.std.specs.Str.{is_utf8};
@@ -8,6 +8,7 @@ ghost use Rattle.base64.specs.GeneralPurpose.{decode_of};
 ghost use Rattle.base64.specs.Engines.{standard};
 ghost use Rattle.transfer_stages.specs.Exchange as expected;
 ghost use Rattle.transfer_stages.specs.Rows.{row_of};
+ghost use Rattle.transfer_exchange.specs.Packets.{can_be_taken};
 
 use crate::rows::{OldRow, old_row};
 use crate::texts::packet_fits;
@@ -53,7 +54,7 @@ fn can_be_taken(
     state: &[u8],
     token: &[u8],
 ) -> Result<bool, NoMemory>
-    ensures { IfOk result (λ b. b ≡ (expected.is_base64 (decode_of standard token.now) && (not (nat_lt 1048576 (length state.now)) && not (nat_lt 11900000 (length (expected.packet params.now token.now)))))) }
+    ensures { IfOk result (λ b. b ≡ can_be_taken params.now state.now token.now) }
 {
     if state.len() > MOST_STATE || !packet_fits(params, token) {
         return Ok(false);

@@ -1,11 +1,11 @@
 //! What is sent in a transfer.
 
-ghost use Rattle.std.specs.Prelude.{◌≡◌, ◌<◌, ◌≤◌, ◌+◌, [], ◌∷◌, ◌++◌, length, not, nat_lt, IfOk, OnOk, MatchOption};
+ghost use Rattle.std.specs.Prelude.{◌≡◌, ◌<◌, ◌≤◌, ◌+◌, ◌++◌, length, not, nat_lt, IfOk, OnOk, MatchOption};
 ghost use Rattle.pgw_frames.specs.Frames.{frame_bytes};
 ghost use Rattle.pgw_messages.specs.Startup.{pair_bytes, startup_body};
 ghost use Rattle.session_model.specs.Texts as text;
 ghost use Rattle.transfer_stages.specs.Exchange.{packet};
-ghost use Rattle.transfer_exchange.specs.Packets.{fits_behind, with_token};
+ghost use Rattle.transfer_exchange.specs.Packets.{with_token};
 
 use pgw_frames::{Bytes, Frame, NoMemory, Text, write_frame};
 use pgw_messages::{Pair, Params};

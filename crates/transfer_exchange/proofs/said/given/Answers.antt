@@ -2,7 +2,8 @@ use Rattle.std.proofs.Common.{List, ℕ, Some, sym, ap, ◌∙◌}
 use Rattle.base64.specs.GeneralPurpose.{decode_of}
 use Rattle.base64.specs.Engines.{standard}
 use Rattle.transfer_stages.specs.declared.stage.Said.TheVariants.{Given}
-use Rattle.transfer_exchange.proofs.Taking.{can_be_taken, given_taken, given_left}
+use Rattle.transfer_exchange.specs.Packets.{can_be_taken}
+use Rattle.transfer_exchange.proofs.Taking.{given_taken, given_left}
 use Rattle.transfer_exchange.proofs.said.given.Goals as goal
 
 pub returns-then-not-branch : goal.returns-then-not-branch
