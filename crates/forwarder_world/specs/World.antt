@@ -217,31 +217,13 @@ comes_to w outcome.DialFault = fails w
 comes_to w (outcome.NewCut c) = fails w
 comes_to w (outcome.OldCut c) = closes w (ExchangeCut c)
 
--- where the exchange has ended, its outcome
-abbrev pub ended : Stage → Option Outcome
-ended (at.Ended o) = Some o
-ended at.AskOld = None
-ended at.OldColumns = None
-ended at.OldRow = None
-ended (at.OldTag s) = None
-ended (at.OldReady s) = None
-ended (at.Dial state token) = None
-ended (at.Packet state token) = None
-ended (at.NewAuth state) = None
-ended (at.NewStatus state n key) = None
-ended (at.Restore state key) = None
-ended (at.NewColumns key) = None
-ended (at.NewRow key) = None
-ended (at.NewTag key) = None
-ended (at.NewReady key) = None
-
 abbrev pub arrives_by : {S T C : Type 0} → World S T C → TransferKey → Stage → Option Outcome → World S T C
 arrives_by w t x None = record w { mode = Exchanging t x }
 arrives_by w t x (Some o) = comes_to w o
 
 -- the exchange has come to this stage
 abbrev pub arrives : {S T C : Type 0} → World S T C → TransferKey → Stage → World S T C
-arrives w t x = arrives_by w t x (ended x)
+arrives w t x = arrives_by w t x (exchange.ended x)
 
 -- a frame of the old pod is awaited
 abbrev pub awaits_old : {S T C : Type 0} → World S T C → TransferKey → List Pair → Stage → Option Frame → World S T C

@@ -1,6 +1,6 @@
 //! The parameters of a session.
 
-ghost use Rattle.std.specs.Prelude.{◌≡◌, ◌==◌, [], length, position, slice_get, OnOk, OnErr};
+ghost use Rattle.std.specs.Prelude.{◌≡◌, ◌==◌, [], length, position, slice_get, IfOk, OnOk, OnErr};
 ghost use Rattle.std.specs.Option.{option_copied};
 ghost use Rattle.pgw_messages.specs.Params.{value_of, with_value, without, is_named};
 
@@ -13,6 +13,17 @@ use std::marker::Model;
 pub struct Pair {
     pub name: Text,
     pub value: Text,
+}
+
+impl Pair {
+    fn copy(&self, alloc: Global) -> Result<Pair, NoMemory>
+        ensures { IfOk result (λ q. q ≡ self.now) }
+    {
+        Ok(Pair {
+            name: Text::of(alloc, self.name.as_str())?,
+            value: Text::of(alloc, self.value.as_str())?,
+        })
+    }
 }
 
 /// A list of names with values. The names differ.
@@ -109,5 +120,17 @@ impl Params {
         ensures { result.now ≡ self.now }
     {
         self.pairs.as_slice()
+    }
+
+    /// A copy of the parameters.
+    pub fn copy(&self) -> Result<Params, NoMemory>
+        ensures { IfOk result (λ p. p ≡ self.now) }
+    {
+        let alloc = *self.pairs.allocator();
+        let mut pairs = Vec::with_capacity(alloc, self.pairs.len())?;
+        for q in &self.pairs {
+            pairs.push(q.copy(alloc)?)?;
+        }
+        Ok(Params { pairs })
     }
 }

@@ -21,7 +21,9 @@ pub use result_set::ready;
 pub use session::Session;
 pub use shared_store::{SharedStore, answer_of};
 pub use solo::Solo;
-pub use texts::{digits_reply, restore_reply, restore_text, transfer_reply, transfer_text};
+pub use texts::{
+    digits_reply, key_text, restore_reply, restore_text, transfer_reply, transfer_text,
+};
 pub use transfer::{Dump, TransferKey};
 
 #[cfg(test)]

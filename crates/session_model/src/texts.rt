@@ -11,7 +11,7 @@ use pgw_frames::{Bytes, Frame, Frames, MOST_BODY, NoMemory, Text};
 use std::alloc::Global;
 
 /// A key's 32 digits, as a transfer Query and its reply spell them.
-fn key_text(alloc: Global, k: &TransferKey) -> Result<String, NoMemory>
+pub fn key_text(alloc: Global, k: &TransferKey) -> Result<String, NoMemory>
     ensures { IfOk result (λ t. string_bytes t ≡ key_digits k.now) }
 {
     let TransferKey { high, low } = *k;

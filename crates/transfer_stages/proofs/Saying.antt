@@ -37,7 +37,7 @@ values_of : (vs : List (List ℕ)) → AllByRecursion (λ v. length v < 42949672
 values_of [] h = refl
 values_of (v ∷ vs) h = value_first (length vs) v (flat_map value vs) h.0 ∙ rw (values_of vs h.1) refl
 
-row_read : (a b c d : List ℕ) → IsGood (row (a ∷ b ∷ c ∷ d ∷ [])) → row_of 4 (row (a ∷ b ∷ c ∷ d ∷ [])) ≡ Some (Some a ∷ Some b ∷ Some c ∷ Some d ∷ [])
+pub row_read : (a b c d : List ℕ) → IsGood (row (a ∷ b ∷ c ∷ d ∷ [])) → row_of 4 (row (a ∷ b ∷ c ∷ d ∷ [])) ≡ Some (Some a ∷ Some b ∷ Some c ∷ Some d ∷ [])
 unfolding row_of
 row_read a b c d good =
     let l : length (flat_map value (a ∷ b ∷ c ∷ d ∷ [])) ≡ 16 + length a + length b + length c + length d =
@@ -86,7 +86,7 @@ says_dump t p (Blob b) token state given_token bytes some good e =
     (ap Blob r.0, rw (← r.0) r.1)
 says_dump t p (Not r) token state given_token bytes some good e = absurd (not_says t p r token state given_token (some r refl) good e)
 
-length-hex_digits : (k n : ℕ) → length (hex_digits k n) ≡ k
+pub length-hex_digits : (k n : ℕ) → length (hex_digits k n) ≡ k
 unfolding hex_digits
 length-hex_digits zero n = refl
 length-hex_digits (suc k) n = length_push (hex_digits k (n / 16)) _ ∙ omega (arith, length-hex_digits k (n / 16))

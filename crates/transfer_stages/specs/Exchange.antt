@@ -15,6 +15,7 @@ use Rattle.pgw_messages.specs.Startup.{startup_packet}
 use Rattle.transfer_stages.specs.Rows.{is_columns, is_fault, row_of}
 use Rattle.pgw_messages.specs.declared.pod_key.PodKey.{PodKey}
 use Rattle.transfer_stages.specs.declared.stage.Cut.TheVariants.{Unexpected}
+use Rattle.transfer_stages.specs.declared.stage.Outcome.{Outcome}
 use Rattle.transfer_stages.specs.declared.stage.Outcome.TheVariants.{Moved, Refused, RevivalRefused, NewCut, OldCut}
 use Rattle.transfer_stages.specs.declared.stage.Said.{Said}
 use Rattle.transfer_stages.specs.declared.stage.Said.TheVariants.{Given, Refuses}
@@ -154,3 +155,21 @@ wants (at.NewRow key) = want.AwaitNew
 wants (at.NewTag key) = want.AwaitNew
 wants (at.NewReady key) = want.AwaitNew
 wants (at.Ended o) = want.Ended
+
+-- where the exchange has ended, its outcome
+abbrev pub ended : Stage → Option Outcome
+ended (at.Ended o) = Some o
+ended at.AskOld = None
+ended at.OldColumns = None
+ended at.OldRow = None
+ended (at.OldTag s) = None
+ended (at.OldReady s) = None
+ended (at.Dial state token) = None
+ended (at.Packet state token) = None
+ended (at.NewAuth state) = None
+ended (at.NewStatus state n key) = None
+ended (at.Restore state key) = None
+ended (at.NewColumns key) = None
+ended (at.NewRow key) = None
+ended (at.NewTag key) = None
+ended (at.NewReady key) = None

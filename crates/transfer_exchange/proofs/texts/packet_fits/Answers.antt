@@ -1,0 +1,24 @@
+use Rattle.std.proofs.Common.{◌≡◌, [], length, drop, sym, ap, ◌∙◌, arith}
+use Rattle.std.proofs.lemmas.List.{drop_all}
+use Rattle.transfer_exchange.specs.Packets.{fits_behind}
+use Rattle.transfer_exchange.proofs.Packets.{fits_all, no_room, last_room}
+use Rattle.transfer_exchange.proofs.texts.packet_fits.Goals as goal
+
+pub returns-in-None : goal.returns-in-None
+returns-in-None c =
+    let name = ap length (c.as_bytes.ensures.value ∙ c.as_str.ensures) in
+    let value = ap length (c.as_bytes-in-loop-q.ensures.value ∙ c.as_str-in-loop-q.ensures) in
+    sym (no_room c.as_slice-pairs.result.now c.args.token.now c.loop-q.q-index c.loop-q.room c.q-item.result (omega arith) c.q-item.is (omega (arith, name, value, c.in-None.ensures)))
+    ∙ c.loop-q.invariant
+    ∙ ap (fits_behind 11899991 c.args.token.now) c.as_slice-pairs.ensures
+    ∙ sym (fits_all c.args.params.now c.args.token.now)
+
+pub returns : goal.returns
+returns c =
+    let whole : drop c.loop-q.q-index c.as_slice-pairs.result.now ≡ [] = drop_all c.loop-q.q-index c.as_slice-pairs.result.now (omega arith) in
+    c.is_some.ensures
+    ∙ last_room c.args.token.now c.loop-q.room c.room_behind-2.result (rw c.as_bytes-2.ensures.value at c.room_behind-2.ensures)
+    ∙ ap (fits_behind c.loop-q.room c.args.token.now) (sym whole)
+    ∙ c.loop-q.invariant
+    ∙ ap (fits_behind 11899991 c.args.token.now) c.as_slice-pairs.ensures
+    ∙ sym (fits_all c.args.params.now c.args.token.now)

@@ -1,0 +1,324 @@
+use super::*;
+use pgw_frames::{Bytes, Frame, NoMemory};
+use pgw_messages::Params;
+use session_model::TransferKey;
+use std::alloc::Global;
+use std::test::*;
+use transfer_stages::{Cut, Outcome, Want};
+
+/// What happens to a transfer.
+#[derive(Clone, Copy)]
+enum Step<'a> {
+    Send,
+    Dial(bool),
+    /// A link fails.
+    Cut,
+    /// A frame of this type and body.
+    Frame(u8, &'a [u8]),
+    /// A RowDescription of these names, whose other fields are 0.
+    Columns(&'a [&'a [u8]]),
+    /// A DataRow.
+    Row(&'a [Option<&'a [u8]>]),
+}
+
+use Step::{Columns, Dial, Row, Send};
+
+const KEY: &[u8] = b"0000000000000001000000000000000a";
+
+/// The columns of the two replies.
+const OLD: &[&[u8]] = &[
+    b"error",
+    b"session_state_base64",
+    b"session_revival_token_base64",
+    b"transfer_key",
+];
+
+const NEW: &[&[u8]] = &[b"crdb_internal.deserialize_session"];
+
+fn message(alloc: Global, tag: u8, body: &[u8]) -> Result<Frame, NoMemory> {
+    Ok(Frame {
+        tag,
+        body: Bytes::of(alloc, body)?,
+    })
+}
+
+fn columns(alloc: Global, names: &[&[u8]]) -> Result<Frame, NoMemory> {
+    let mut body = Vec::from_slice(alloc, &[0, names.len().min(255) as u8])?;
+    for name in names {
+        body.extend_from_slice(name)?;
+        body.extend_from_slice(&[0; 19])?;
+    }
+    message(alloc, b'T', body.as_slice())
+}
+
+fn add_value(body: &mut Vec<u8>, value: Option<&[u8]>) -> Result<(), NoMemory> {
+    match value {
+        Some(v) => {
+            body.extend_from_slice(&[0, 0, 0, v.len().min(255) as u8])?;
+            body.extend_from_slice(v)?;
+        }
+        None => body.extend_from_slice(b"\xff\xff\xff\xff")?,
+    }
+    Ok(())
+}
+
+fn row(alloc: Global, values: &[Option<&[u8]>]) -> Result<Frame, NoMemory> {
+    let mut body = Vec::from_slice(alloc, &[0, values.len().min(255) as u8])?;
+    for value in values {
+        add_value(&mut body, *value)?;
+    }
+    message(alloc, b'D', body.as_slice())
+}
+
+fn send(x: &mut Exchange) {
+    match x.want() {
+        Want::SendOld | Want::SendNew => x.sent(),
+        Want::AwaitOld | Want::Dial | Want::AwaitNew | Want::Ended => {}
+    }
+}
+
+/// Gives it a message, where one is awaited.
+fn give(x: &mut Exchange, f: Frame) -> Result<(), NoMemory> {
+    match x.want() {
+        Want::AwaitOld | Want::AwaitNew => x.take(f),
+        Want::SendOld | Want::Dial | Want::SendNew | Want::Ended => Ok(()),
+    }
+}
+
+fn dial(x: &mut Exchange, ok: bool) {
+    if x.want() == Want::Dial {
+        x.dialed(ok);
+    }
+}
+
+fn fail(x: &mut Exchange) {
+    match x.want() {
+        Want::SendOld | Want::SendNew | Want::AwaitOld | Want::AwaitNew => x.cut(Cut::Ended),
+        Want::Dial | Want::Ended => {}
+    }
+}
+
+fn take_step(alloc: Global, x: &mut Exchange, s: Step<'_>) -> Result<(), NoMemory> {
+    match s {
+        Step::Send => send(x),
+        Step::Dial(ok) => dial(x, ok),
+        Step::Cut => fail(x),
+        Step::Frame(tag, body) => give(x, message(alloc, tag, body)?)?,
+        Step::Columns(names) => give(x, columns(alloc, names)?)?,
+        Step::Row(values) => give(x, row(alloc, values)?)?,
+    }
+    Ok(())
+}
+
+fn go(alloc: Global, x: &mut Exchange, steps: &[Step<'_>]) -> Result<(), NoMemory> {
+    for s in steps {
+        take_step(alloc, x, *s)?;
+    }
+    Ok(())
+}
+
+/// A transfer with the key of `KEY`, of a session whose only parameter is user `u`.
+fn begun(alloc: Global) -> Result<Exchange, NoMemory> {
+    let mut params = Params::new(alloc);
+    params.put("user", "u")?;
+    if params.value("crdb:session_revival_token_base64").is_some() {
+        return Err(NoMemory);
+    }
+    Exchange::start(alloc, &TransferKey { high: 1, low: 10 }, &params)
+}
+
+/// One whose old pod has replied with a state.
+fn up_to_dial(alloc: Global) -> Result<Exchange, NoMemory> {
+    let mut x = begun(alloc)?;
+    let steps = [
+        Send,
+        Columns(OLD),
+        Row(&[None, Some(b"AQ=="), Some(b"dG9r"), Some(KEY)]),
+        Step::Frame(b'C', b"SHOW TRANSFER STATE 1\0"),
+        Step::Frame(b'Z', b"I"),
+    ];
+    go(alloc, &mut x, &steps)?;
+    Ok(x)
+}
+
+/// One whose new pod has begun to greet.
+fn up_to_greeting(alloc: Global) -> Result<Exchange, NoMemory> {
+    let mut x = up_to_dial(alloc)?;
+    go(
+        alloc,
+        &mut x,
+        &[Dial(true), Send, Step::Frame(b'R', b"\0\0\0\0")],
+    )?;
+    Ok(x)
+}
+
+fn cut_word(c: &Cut) -> (&str, u32) {
+    match c {
+        Cut::Unexpected(f) => ("unexpected", f.tag as u32),
+        _ => ("cut", 0),
+    }
+}
+
+/// What it came to, with a number that tells more.
+fn came_to(x: &Exchange) -> (&str, u32) {
+    match x.outcome() {
+        None => ("goes on", 0),
+        Some(Outcome::Moved(Some(key))) => ("moved", key.process),
+        Some(Outcome::Moved(None)) => ("moved without a key", 0),
+        Some(Outcome::Refused(t)) => ("refused", t.as_str().len().min(99) as u32),
+        Some(Outcome::RevivalRefused(f)) => ("revival refused", f.tag as u32),
+        Some(Outcome::DialFault) => ("dial fault", 0),
+        Some(Outcome::NewCut(c)) => cut_word(c),
+        Some(Outcome::OldCut(c)) => cut_word(c),
+    }
+}
+
+/// What a transfer wants to send.
+fn text(alloc: Global, x: &Exchange) -> Result<Bytes, NoMemory> {
+    match x.want() {
+        Want::SendOld | Want::SendNew => x.text(),
+        Want::AwaitOld | Want::Dial | Want::AwaitNew | Want::Ended => Ok(Bytes::new(alloc)),
+    }
+}
+
+#[test]
+fn the_transfer_query(rt: HostRuntime) -> Result<(), Fail> {
+    let query = text(rt.alloc(), &begun(rt.alloc())?)?;
+    let want = b"Q\0\0\0\x40SHOW TRANSFER STATE WITH '0000000000000001000000000000000a'\0";
+    assert_eq!(rt; query.as_slice(), want.as_slice());
+    Ok(())
+}
+
+#[test]
+fn the_startup_packet(rt: HostRuntime) -> Result<(), Fail> {
+    let mut x = up_to_dial(rt.alloc())?;
+    go(rt.alloc(), &mut x, &[Dial(true)])?;
+    let packet = text(rt.alloc(), &x)?;
+    let want = b"\0\0\0\x37\0\x03\0\0user\0u\0crdb:session_revival_token_base64\0dG9r\0\0";
+    assert_eq!(rt; packet.as_slice(), want.as_slice());
+    Ok(())
+}
+
+#[test]
+fn the_restore_query(rt: HostRuntime) -> Result<(), Fail> {
+    let mut x = up_to_greeting(rt.alloc())?;
+    go(rt.alloc(), &mut x, &[Step::Frame(b'Z', b"I")])?;
+    let restore = text(rt.alloc(), &x)?;
+    let want = b"Q\0\0\0\x46SELECT crdb_internal.deserialize_session(decode('AQ==','base64'))\0";
+    assert_eq!(rt; restore.as_slice(), want.as_slice());
+    Ok(())
+}
+
+#[test]
+fn rows_of_an_old_pod(rt: HostRuntime) -> Result<(), Fail> {
+    let rows: [(&[Option<&[u8]>], (&str, u32)); 9] = [
+        (
+            &[None, Some(b"AQ=="), Some(b"dG9r"), Some(KEY)],
+            ("goes on", 0),
+        ),
+        (&[Some(b"busy"), Some(b""), None, Some(KEY)], ("goes on", 0)),
+        (&[None, None, Some(b"dG9r"), Some(KEY)], ("unexpected", 68)),
+        (
+            &[None, Some(b"AQ="), Some(b"dG9r"), Some(KEY)],
+            ("unexpected", 68),
+        ),
+        (
+            &[None, Some(b"AQ=="), Some(b"dG9"), Some(KEY)],
+            ("unexpected", 68),
+        ),
+        (
+            &[None, Some(b"AQ=="), Some(b"dG9r"), None],
+            ("unexpected", 68),
+        ),
+        (
+            &[None, Some(b"AQ=="), Some(b"dG9r"), Some(b"1")],
+            ("unexpected", 68),
+        ),
+        (&[Some(b"\xff"), None, None, Some(KEY)], ("unexpected", 68)),
+        (&[None, Some(b"AQ=="), Some(b"dG9r")], ("unexpected", 68)),
+    ];
+    for (values, want) in rows {
+        let mut x = begun(rt.alloc())?;
+        go(rt.alloc(), &mut x, &[Send, Columns(OLD), Row(values)])?;
+        assert_eq!(rt; came_to(&x), want);
+    }
+    Ok(())
+}
+
+#[test]
+fn ends_with_the_old_pod(rt: HostRuntime) -> Result<(), Fail> {
+    let refused = Row(&[Some(b"busy"), Some(b""), Some(b""), Some(KEY)]);
+    let tag = Step::Frame(b'C', b"SHOW TRANSFER STATE 1\0");
+    let rows: [(&[Step<'_>], (&str, u32)); 3] = [
+        (&[Step::Cut], ("cut", 0)),
+        (&[Send, Columns(OLD), refused, tag], ("goes on", 0)),
+        (
+            &[Send, Columns(OLD), refused, tag, Step::Frame(b'Z', b"T")],
+            ("refused", 4),
+        ),
+    ];
+    for (steps, want) in rows {
+        let mut x = begun(rt.alloc())?;
+        go(rt.alloc(), &mut x, steps)?;
+        assert_eq!(rt; came_to(&x), want);
+    }
+    let mut x = up_to_dial(rt.alloc())?;
+    go(rt.alloc(), &mut x, &[Dial(false)])?;
+    assert_eq!(rt; came_to(&x), ("dial fault", 0));
+    Ok(())
+}
+
+#[test]
+fn ends_with_the_new_pod(rt: HostRuntime) -> Result<(), Fail> {
+    let rows: [(&[Step<'_>], (&str, u32)); 6] = [
+        (&[Step::Cut], ("cut", 0)),
+        (&[Step::Frame(b'Z', b"I")], ("goes on", 0)),
+        (&[Step::Frame(b'Z', b"T")], ("unexpected", 90)),
+        (
+            &[Step::Frame(b'E', b"SERROR\0C28000\0\0")],
+            ("revival refused", 69),
+        ),
+        (
+            &[Step::Frame(b'E', b"SERROR\0C28000\0")],
+            ("unexpected", 69),
+        ),
+        (&[Step::Frame(b'E', b"")], ("unexpected", 69)),
+    ];
+    for (steps, want) in rows {
+        let mut x = up_to_greeting(rt.alloc())?;
+        go(rt.alloc(), &mut x, steps)?;
+        assert_eq!(rt; came_to(&x), want);
+    }
+    Ok(())
+}
+
+#[test]
+fn a_session_is_moved(rt: HostRuntime) -> Result<(), Fail> {
+    let mut x = up_to_greeting(rt.alloc())?;
+    let steps = [
+        Step::Frame(b'K', b"\0\0\0\x07\0\0\0\x09"),
+        Step::Frame(b'Z', b"I"),
+        Send,
+        Columns(NEW),
+        Row(&[Some(b"t")]),
+        Step::Frame(b'C', b"SELECT 1\0"),
+        Step::Frame(b'Z', b"I"),
+    ];
+    go(rt.alloc(), &mut x, &steps)?;
+    assert_eq!(rt; came_to(&x), ("moved", 7));
+    assert!(rt; matches!(x.into_outcome(), Some(Outcome::Moved(_))));
+    Ok(())
+}
+
+#[test]
+fn limits_of_a_greeting(rt: HostRuntime) -> Result<(), Fail> {
+    let status = [Step::Frame(b'S', b"a\0b\0")];
+    let mut x = up_to_greeting(rt.alloc())?;
+    for _ in 0..1000 {
+        go(rt.alloc(), &mut x, &status)?;
+    }
+    assert_eq!(rt; came_to(&x), ("goes on", 0));
+    go(rt.alloc(), &mut x, &status)?;
+    assert_eq!(rt; came_to(&x), ("unexpected", 83));
+    Ok(())
+}

@@ -1,0 +1,5 @@
+use Rattle.transfer_stages.proofs.NewGreeting.{accepted, unexpected, goes_on}
+use Rattle.transfer_stages.proofs.laws.stages_take_the_greeting.Goals as goal
+
+pub returns : goal.returns
+returns c = record { accepted = accepted; unexpected = unexpected; goes_on = goes_on }

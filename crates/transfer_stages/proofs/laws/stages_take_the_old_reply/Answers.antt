@@ -1,0 +1,9 @@
+use Rattle.transfer_stages.proofs.OldReply.{accepted, unexpected, goes_on}
+use Rattle.transfer_stages.proofs.laws.stages_take_the_old_reply.Goals as goal
+
+pub returns : goal.returns
+returns c = record {
+  accepted = accepted;
+  unexpected = unexpected;
+  goes_on = goes_on;
+}
