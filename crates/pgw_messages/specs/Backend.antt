@@ -20,18 +20,20 @@ use Rattle.pgw_messages.specs.Startup.{pair_at, pair_bytes, IsPair}
 
 -- ---- bodies
 
-abbrev pub auth_bytes : AuthMsg → List ℕ
-auth_bytes m = to_be_bytes w32 m.code ++ m.rest
-
-pub record IsAuth (m : AuthMsg) : Type 0 where
-  pub code : m.code < 2 ^ 32
-
+-- an authentication request: a code, and what it brings with it
 abbrev pub auth_at : List ℕ → Read AuthMsg
 auth_at b = do
   code ← number_at w32 b
   rest ← remaining_at code.1
   Ok (record { code = code.0; rest = rest.0 }, rest.1)
 
+abbrev pub auth_bytes : AuthMsg → List ℕ
+auth_bytes m = to_be_bytes w32 m.code ++ m.rest
+
+pub record IsAuth (m : AuthMsg) : Type 0 where
+  pub code : m.code < 2 ^ 32
+
+-- BackendKeyData: a process and a secret
 abbrev pub key_at : List ℕ → Read PodKey
 key_at b = do
   process ← number_at w32 b
@@ -49,11 +51,13 @@ pub record IsKey (m : PodKey) : Type 0 where
 abbrev pub is_state : ℕ → Bool
 is_state state = state == 73 || state == 84 || state == 69
 
+-- ReadyForQuery: the state of the transaction
 abbrev pub ready_at : List ℕ → Read ℕ
 ready_at b = do
   state ← byte_at b
   if is_state state.0 then Ok state else Err BadValue
 
+-- a column of RowDescription
 abbrev pub column_at : List ℕ → Read Column
 column_at b = do
   name ← text_at b
@@ -77,6 +81,7 @@ pub record IsColumn (c : Column) : Type 0 where
   pub modifier : FitsSigned w32 c.modifier
   pub format : c.format < 2 ^ 16
 
+-- NotificationResponse: a process, a channel and a payload
 abbrev pub notify_at : List ℕ → Read NotifyMsg
 notify_at b = do
   process ← number_at w32 b
@@ -92,6 +97,7 @@ pub record IsNotify (m : NotifyMsg) : Type 0 where
   pub channel : IsText m.channel
   pub payload : IsText m.payload
 
+-- CopyInResponse: a format of the whole, and one of each column
 abbrev pub copy_at : List ℕ → Read CopyMsg
 copy_at b = do
   format ← byte_at b

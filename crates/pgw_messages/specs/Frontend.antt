@@ -15,6 +15,7 @@ use Rattle.pgw_messages.specs.Spelling.{text_bytes, value_bytes, list_bytes, Has
 
 -- ---- bodies
 
+-- Parse: a name, a query, and types
 abbrev pub parse_at : List ℕ → Read ParseMsg
 parse_at b = do
   name ← text_at b
@@ -30,6 +31,7 @@ pub record IsParse (m : ParseMsg) : Type 0 where
   pub query : IsText m.query
   pub types : IsList (λ n. n < 2 ^ 32) m.types
 
+-- Bind: a portal, a statement, formats of the values, the values, and formats of the result
 abbrev pub bind_at : List ℕ → Read BindMsg
 bind_at b = do
   portal ← text_at b
@@ -53,6 +55,7 @@ pub record IsBind (m : BindMsg) : Type 0 where
 abbrev pub is_part : ℕ → Bool
 is_part kind = kind == 83 || kind == 80
 
+-- Describe and Close: what is named, and its name
 abbrev pub part_at : List ℕ → Read Part
 part_at b = do
   kind ← byte_at b
@@ -65,6 +68,7 @@ pub record IsPart (m : Part) : Type 0 where
   pub kind : is_part m.kind ≡ true
   pub name : IsText m.name
 
+-- Execute: a portal, and the most rows
 abbrev pub execute_at : List ℕ → Read ExecuteMsg
 execute_at b = do
   portal ← text_at b

@@ -1,6 +1,7 @@
 //! Why a message can't be read.
 
-ghost use Rattle.std.specs.Prelude.{◌≡◌};
+ghost use Rattle.std.specs.Prelude.{◌≡◌, Some};
+ghost use Rattle.pgw_messages.specs.Faults.{fault_text};
 ghost use Rattle.pgw_messages.specs.declared.fault.MsgFault.TheVariants as fault;
 
 use std::alloc::{AllocError, AllocFailed};
@@ -24,6 +25,8 @@ pub enum MsgFault {
 }
 
 impl fmt::Display for MsgFault {
+    ghost output = { λ e. Some (fault_text e) };
+
     fn fmt<W: fmt::Write>(&self, f: &mut fmt::Formatter<W>) -> fmt::Result {
         match self {
             MsgFault::UnknownTag(tag) => write!(f, "unknown message type: {tag}"),

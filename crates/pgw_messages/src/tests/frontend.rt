@@ -134,6 +134,7 @@ fn a_bind_on_the_wire(rt: HostRuntime) -> Result<(), Fail> {
     let mut formats = Items::new(rt.alloc());
     formats.push(1)?;
     let mut values = Items::new(rt.alloc());
+    assert!(rt; values.is_empty());
     values.push(None)?;
     values.push(Some(Bytes::of(rt.alloc(), b"xy")?))?;
     let bind = FrontMsg::Bind(BindMsg {
