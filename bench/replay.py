@@ -5,8 +5,8 @@ usage: bench/replay.py [ROUND_TRIPS] [RUNS]
 
 Makes schedules from the number of round trips (125000, eight lines each), runs the built program and
 sha256sum over the same files in turn, and prints the median processor times with their ratios, the
-most memory, and what twice the schedule costs. Then it prints the time per byte of single frames that
-are read in pieces of 1, 64 and 65,535 bytes.
+most memory, and what twice the schedule costs. Then it prints the time a line of whole moves beside that
+of round trips, and the time per byte of single frames that are read in pieces of 1, 64 and 65,535 bytes.
 """
 import os
 import statistics
@@ -28,6 +28,21 @@ def round_trips(path, count):
         for _ in range(count // 1000):
             out.write(ROUND_TRIP * 1000)
         out.write(ROUND_TRIP * (count % 1000))
+
+
+MOVE = (
+    "stop\npark\nhold\nstart 000102030405060708090a0b0c0d0e0f\nmove\ndeliver 999\npod\n" + "move\n" * 6
+    + "deliver new 999\npod new\n" + "move\n" * 4 + "deliver new 999\npod new\n" + "move\n" * 4
+)
+
+
+def moves(path, count):
+    """Whole moves with a Query round trip after each, behind a first round trip."""
+    with open(path, "w") as out:
+        out.write("back 65535\npass\npass\npass\n" + ROUND_TRIP)
+        for _ in range(count):
+            out.write(MOVE + ROUND_TRIP)
+    return 12 + count * ((MOVE + ROUND_TRIP).count("\n"))
 
 
 def one_frame(path, size, piece):
@@ -85,6 +100,17 @@ def main():
             )
             single = single or ours
         print(f"\ntwice the schedule costs {ours / single:.2f} times as much\n")
+        each = ours / (count * 2 * 8 + 4)
+        print("| schedule | lines | replay s | ns a line | beside round trips |")
+        print("|---|---|---|---|---|")
+        for whole in (10_000, 20_000):
+            lines = moves(path, whole)
+            seconds, _, _ = medians(path, runs)
+            print(
+                f"| {whole} moves | {lines} | {seconds:.3f} | {seconds * 1e9 / lines:.0f} "
+                f"| {seconds / lines / each:.2f} |"
+            )
+        print()
         print("| frame | piece | bytes of schedule | replay s | ns a byte |")
         print("|---|---|---|---|---|")
         for size in (1 << 16, 1 << 20, (1 << 24) + 5):

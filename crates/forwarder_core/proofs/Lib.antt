@@ -1,4 +1,11 @@
-pub mod Lists
 pub mod Carrying
+pub mod Lists
+pub mod Alone
+pub mod Reading
+pub mod Linking
+pub mod Passing
+pub mod Connecting
 pub mod Standing
 pub mod Schedules
+pub mod Moving
+pub mod Dialing

@@ -6,8 +6,19 @@ use Rattle.pgw_messages.specs.declared.params.Pair.{Pair}
 use Rattle.session_model.specs.Kind.{Kind}
 use Rattle.forwarder_world.specs.World.{World}
 use Rattle.forwarder_world.specs.Headline.{Headline}
+use Rattle.forwarder_world.specs.Turns.{BeginsSafely, Resumes, EndsBy}
+use Rattle.forwarder_world.specs.declared.event.Event.{Event}
+use Rattle.session_model.specs.declared.transfer.TransferKey.{TransferKey}
+use Rattle.transfer_stages.specs.declared.stage.Outcome.{Outcome}
 
 -- these are the received bytes, and the headline holds of them
 pub record Hears {S T C R : Type 0} (k : Kind S C R) (rules : Rules T C R) (key : ClientKey) (p : List Pair) (w : World S T C) (bytes : List ℕ) : Type 0 where
   pub bytes_are : bytes ≡ w.received
   pub headline : Headline k rules key p w
+
+-- A transfer begins by this event only at a safe point with both sides suspended, and nothing is sent yet; elsewhere a
+-- start lets both sides go on; and each outcome brings its end: the new link, the old one, or the close.
+pub record Turns {S T C R : Type 0} (k : Kind S C R) (rules : Rules T C R) (key : ClientKey) (p : List Pair) (w : World S T C) (e : Event C) : Type 0 where
+  pub begins : BeginsSafely k rules key p w e
+  pub resumes : (t : TransferKey) → Resumes k rules key p w t
+  pub ends : (o : Outcome) → EndsBy w o

@@ -1,9 +1,11 @@
 -- What a link of the program stands for.
-use Rattle.std.specs.Prelude.{◌≡◌, ◌≤◌, ◌-◌, ℕ, false, List, length, Option, Some, None}
+use Rattle.std.specs.Prelude.{◌≡◌, ◌≤◌, ◌-◌, ℕ, nat_lt, List, [], length, take, drop, Option, Some, None, option_map, if◌then◌else◌}
 use Rattle.pgw_frames.specs.declared.frame.Frame.{Frame}
 use Rattle.proxy_outside.specs.Rules.{Rules}
+use Rattle.pgw_messages.specs.declared.params.Pair.{Pair}
 use Rattle.session_model.specs.Kind.{Kind}
 use Rattle.session_model.specs.Solo.{store_after}
+use Rattle.processor_core.specs.Streams.{Cuts}
 use Rattle.forwarder_world.specs.Link as model
 use Rattle.forwarder_core.specs.Carries.{Carries}
 use Rattle.forwarder_core.specs.declared.channel.Channel.{Channel}
@@ -13,27 +15,60 @@ use Rattle.forwarder_core.specs.declared.link.Link.{Link}
 abbrev pub Hands : Channel → List ℕ → ℕ → ℕ → Type 0
 Hands c stream at count = (handed : List Frame) × (length handed ≡ count) × Carries c stream at handed
 
-pub record LinkStands {X Y C R S : Type 0} (state : X → S) (l : Link X Y C R) (m : model.Link S) : Type 0 where
-  pub opened : length m.opening ≤ m.delivered
+-- of the bytes that were read of a link these are in no message that was handed out
+abbrev pub Reads : {S : Type 0} → model.Link S → List ℕ → Type 0
+Reads m held = (handed : List Frame) × (length handed ≡ m.out) × Cuts handed held (take m.back m.got)
+
+pub record LinkStands {X Y C R S : Type 0} (state : X → S) (l : Link X Y C R) (m : model.Link S) (held : List ℕ) : Type 0 where
+  pub opening : l.opening ≡ nat_lt 0 (length m.opening)
+  pub unopened : l.unopened ≡ length m.opening - m.delivered
   pub pod : Hands l.pod m.sent (m.delivered - length m.opening) m.taken
-  pub response : Hands l.response m.got m.back m.out
-  pub session : m.session ≡ Some (state l.session)
-  pub uncut : m.cut ≡ false
+  pub bound : m.back ≤ length m.got
+  pub replies : l.replies ≡ drop m.back m.got
+  pub reads : Reads m held
+  pub session : option_map state l.session ≡ m.session
+  pub cut : l.cut ≡ m.cut
 
 -- each link that old stands for leads to one that new stands for
 abbrev pub LinkLeads : {X Y C R S : Type 0} → (X → S) → Link X Y C R → Link X Y C R → (model.Link S → model.Link S) → Type 0
-LinkLeads {X} {Y} {C} {R} {S} state old new f = (m : model.Link S) → LinkStands state old m → LinkStands state new (f m)
+LinkLeads {X} {Y} {C} {R} {S} state old new f = (m : model.Link S) (held : List ℕ) → LinkStands state old m held → LinkStands state new (f m) held
+
+-- a link that is not cut goes on
+abbrev pub unless_cut : {S : Type 0} → (model.Link S → model.Link S) → model.Link S → model.Link S
+unless_cut f m = if m.cut then m else f m
+
+-- nothing was sent on the link
+pub record IsUnsent {S : Type 0} (m : model.Link S) : Type 0 where
+  pub no_opening : m.opening ≡ []
+  pub no_message : m.sent ≡ []
+  pub none_delivered : m.delivered ≡ 0
 
 -- the pod takes what is next, where it can
 abbrev pub listens : {S T C R : Type 0} → Kind S C R → Rules T C R → model.Link S → T → Option S → Option Frame → model.Link S × T
-listens k rules l t None f = (l, t)
-listens k rules l t (Some s) None = (l, t)
-listens k rules l t (Some s) (Some f) = (model.hears k rules l s t f, store_after rules t (k.asks s f))
+listens k rules m t None f = (m, t)
+listens k rules m t (Some s) None = (m, t)
+listens k rules m t (Some s) (Some f) = (model.hears k rules m s t f, store_after rules t (k.asks s f))
 
 abbrev pub hearing : {S T C R : Type 0} → Kind S C R → Rules T C R → model.Link S → T → model.Link S × T
-hearing k rules l t = listens k rules l t l.session (model.next_to_pod l)
+hearing k rules m t = listens k rules m t m.session (model.next_to_pod m)
 
--- a message was handed out, where one was next
-abbrev pub passed_on : {S : Type 0} → model.Link S → Option Frame → model.Link S
-passed_on l None = l
-passed_on l (Some f) = model.passes l
+-- the pod takes the startup packet, or behind it what is next
+abbrev pub opens_or_hears : {S T C R : Type 0} → Kind S C R → Rules T C R → List Pair → model.Link S → T → Option S → model.Link S × T
+opens_or_hears k rules p m t None = (model.begins k p m, t)
+opens_or_hears k rules p m t (Some s) = listens k rules m t (Some s) (model.next_to_pod m)
+
+-- the same of a pod that may be cut off
+abbrev pub turn : {S T C R : Type 0} → Kind S C R → Rules T C R → List Pair → model.Link S → T → model.Link S × T
+turn k rules p m t = if m.cut then (m, t) else opens_or_hears k rules p m t m.session
+
+-- a message was read, where one stands whole
+abbrev pub taken_by : {S : Type 0} → model.Link S → Option Frame → model.Link S
+taken_by m None = m
+taken_by m (Some f) = model.takes m f
+
+-- the link to a new pod, where there is one; all that was read of it was handed out
+abbrev pub FreshStands : {X Y C R S : Type 0} → (X → S) → Option (Link X Y C R) → Option (model.Link S) → Type 0
+FreshStands state None None = Unit {0}
+FreshStands state None (Some m) = ⊥
+FreshStands state (Some l) None = ⊥
+FreshStands state (Some l) (Some m) = LinkStands state l m []

@@ -1,13 +1,12 @@
 //! A stream of bytes, with the cutter at its end.
 
-ghost use Rattle.std.specs.Prelude.{◌≡◌, ◌+◌, ℕ, List, [], ◌++◌, length, min, OnOk, IfOk};
-ghost use Rattle.std.specs.List.{AllByRecursion};
-ghost use Rattle.pgw_frames.specs.Frames.{frame_bytes, render, IsGood};
+ghost use Rattle.std.specs.Prelude.{◌≡◌, ◌+◌, ℕ, List, [], ◌++◌, length, min, OnOk, IfOk, IfSome};
+ghost use Rattle.pgw_frames.specs.Frames.{frame_bytes, IsGood};
 ghost use Rattle.pgw_frames.specs.Cutting.{HasGoodFrame};
 ghost use Rattle.pgw_frames.specs.declared.frame.Frame.{Frame};
-ghost use Rattle.forwarder_core.specs.Carries.{Carries, NextOf};
+ghost use Rattle.forwarder_core.specs.Carries.{Carries, NextOf, whole_of};
 
-use pgw_frames::{ByteQueue, Cutter, Frame, Frames, Next, NoMemory};
+use pgw_frames::{ByteQueue, Cutter, Frame, Next, NoMemory};
 use std::alloc::Global;
 
 /// A stream of bytes: those that are on their way, and those that have come.
@@ -17,16 +16,16 @@ pub(crate) struct Channel {
     cutter: Cutter,
 }
 
-/// Adds these frames at the end.
-fn write_frames(queue: &mut ByteQueue, fs: &Frames) -> Result<(), NoMemory>
-    requires { AllByRecursion IsGood fs.now }
-    ensures { OnOk result (queue.new ≡ queue.old ++ render fs.now) }
+/// The message that stands whole at the front, if any.
+pub(crate) fn whole(next: Next) -> Option<Frame>
+    ensures value { result ≡ whole_of next }
+    ensures good { HasGoodFrame next → IfSome result IsGood }
 {
-    let items = fs.as_slice();
-    for f in items {
-        queue.write_frame(f)?;
+    match next {
+        Next::Frame(f) => Some(f),
+        Next::Need => None,
+        Next::BadLength(_) => None,
     }
-    Ok(())
 }
 
 impl Channel {
@@ -47,21 +46,12 @@ impl Channel {
         Ok(())
     }
 
-    /// The stream goes on with a frame.
+    /// The stream goes on with a message.
     pub fn give_frame(&mut self, f: &Frame) -> Result<(), NoMemory>
         requires { IsGood f.now }
         ensures { OnOk result ((stream : List ℕ) (at : ℕ) (handed : List Frame) → Carries self.old stream at handed → Carries self.new (stream ++ frame_bytes f.now) at handed) }
     {
         self.waiting.write_frame(f)?;
-        Ok(())
-    }
-
-    /// The stream goes on with these frames.
-    pub fn give_frames(&mut self, fs: &Frames) -> Result<(), NoMemory>
-        requires { AllByRecursion IsGood fs.now }
-        ensures { OnOk result ((stream : List ℕ) (at : ℕ) (handed : List Frame) → Carries self.old stream at handed → Carries self.new (stream ++ render fs.now) at handed) }
-    {
-        write_frames(&mut self.waiting, fs)?;
         Ok(())
     }
 
@@ -76,12 +66,12 @@ impl Channel {
         Ok(come)
     }
 
-    /// Hands out the next frame of what has come.
-    pub fn next(&mut self) -> Result<Next, NoMemory>
+    /// Hands out the next message of what has come.
+    pub fn next(&mut self) -> Result<Option<Frame>, NoMemory>
         ensures next { IfOk result (λ r. (stream : List ℕ) (at : ℕ) (handed : List Frame) → Carries self.old stream at handed → NextOf r self.new stream at handed) }
-        ensures good { IfOk result HasGoodFrame }
+        ensures good { IfOk result (λ r. IfSome r IsGood) }
     {
         let next = self.cutter.next()?;
-        Ok(next)
+        Ok(whole(next))
     }
 }

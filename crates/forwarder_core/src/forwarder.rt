@@ -1,222 +1,328 @@
-//! The events of a World, one small step each.
+//! Where a connection stands, and what each event does to it.
 
-ghost use Rattle.std.specs.Prelude.{List, ◌≡◌, ◌==◌, ◌&&◌, not, nat_lt, length, take, slice_get, if◌then◌else◌, IfOk, OnOk, OnErr};
-ghost use Rattle.pgw_frames.specs.Frames.{frames, bad};
-ghost use Rattle.pgw_messages.specs.Startup.{Fits};
+ghost use Rattle.std.specs.Prelude.{List, ◌≡◌, ◌&&◌, Bool, true, false, IfOk, OnOk, OnErr};
+ghost use Rattle.forwarder_world.specs.World.{Mode, Running, phase_of, forwarding, is_closed as is_closed_mode};
+ghost use Rattle.forwarder_core.specs.Stands.{closed_by, is_held, runs_on, may_park, may_hold};
 ghost use Rattle.pgw_messages.specs.declared.params.Pair.{Pair};
+ghost use Rattle.proxy_outside.specs.declared.identity.ClientKey.{ClientKey as Key};
 
-use crate::channel::Channel;
-use crate::link::Link;
-use crate::shown::{is_greeted, shown};
+use crate::connection::Connection;
 use forwarder_world::{Close, Counts, Event, Phase};
-use pgw_frames::{Bytes, Next, NoMemory, write_frame};
+use pgw_frames::NoMemory;
 use pgw_messages::Params;
 use proxy_outside::{ClientKey, Machine};
-use session_model::{Session, SharedStore};
+use session_model::{Session, TransferKey};
 use std::alloc::Global;
+use transfer_exchange::Exchange;
 
 /// A World that was not given up.
 #[derive(Drop)]
 pub(crate) struct Forwarder<S: Session> {
-    alloc: Global,
-    key: ClientKey,
-    phase: Phase,
-    counts: Counts,
-    /// What the client gives.
-    request: Channel,
-    link: Link<S>,
-    store: SharedStore<S::Store>,
-    /// Whether the greeting was passed.
-    greeted: bool,
-    received: Bytes,
+    pub(crate) phase: Phase,
+    /// Whether the response side is suspended.
+    pub(crate) held: bool,
+    /// The transfer that is under way.
+    pub(crate) exchange: Option<Exchange>,
+    pub(crate) connection: Connection<S>,
 }
 
-fn close(phase: &mut Phase, why: Close)
-    ensures { phase.new ≡ Phase.Closed why }
+/// The connection is closed, where there is a reason.
+fn close(phase: &mut Phase, why: Option<Close>)
+    ensures { phase.new ≡ closed_by why phase.old }
 {
-    *phase = Phase::Closed(why);
-}
-
-/// A Terminate (PostgreSQL manual, Message Flow, Termination) ends the connection.
-fn close_at_terminate(phase: &mut Phase, tag: u8)
-    ensures { phase.new ≡ (if tag == 88 then Phase.Closed Close.Bye else phase.old) }
-{
-    if tag == b'X' {
-        close(phase, Close::Bye);
+    if let Some(why) = why {
+        *phase = Phase::Closed(why);
     }
 }
 
-/// Whether these are as many bytes as a client may give at once.
-fn may_be_given(piece: &[u8]) -> bool
-    ensures { result ≡ (nat_lt 0 (length piece.now) && not (nat_lt 4096 (length piece.now))) }
+/// Whether the request side goes on.
+fn is_forwarding(phase: &Phase) -> bool
+    ensures { (m : Mode) → phase.now ≡ phase_of m → result ≡ forwarding m }
 {
-    !piece.is_empty() && piece.len() <= 4096
+    match phase {
+        Phase::Running => true,
+        Phase::Stop => true,
+        Phase::Parked => false,
+        Phase::Exchange => false,
+        Phase::Closed(_) => false,
+    }
+}
+
+fn is_closed(phase: &Phase) -> bool
+    ensures { (m : Mode) → phase.now ≡ phase_of m → result ≡ is_closed_mode m }
+{
+    match phase {
+        Phase::Running => false,
+        Phase::Stop => false,
+        Phase::Parked => false,
+        Phase::Exchange => false,
+        Phase::Closed(_) => true,
+    }
+}
+
+/// Whether nothing asked it to stop.
+fn is_running(phase: &Phase) -> bool
+    ensures { (m : Mode) → phase.now ≡ phase_of m → result ≡ runs_on m }
+{
+    match phase {
+        Phase::Running => true,
+        Phase::Stop => false,
+        Phase::Parked => false,
+        Phase::Exchange => false,
+        Phase::Closed(_) => false,
+    }
+}
+
+/// Whether it is to stop, with the request side not suspended yet.
+fn is_stopping(phase: &Phase) -> bool
+    ensures { (m : Mode) → phase.now ≡ phase_of m → result ≡ may_park m }
+{
+    match phase {
+        Phase::Running => false,
+        Phase::Stop => true,
+        Phase::Parked => false,
+        Phase::Exchange => false,
+        Phase::Closed(_) => false,
+    }
+}
+
+/// Whether it is to stop, with the request side suspended.
+fn is_parked(phase: &Phase) -> bool
+    ensures { (m : Mode) → phase.now ≡ phase_of m → result ≡ may_hold m }
+{
+    match phase {
+        Phase::Running => false,
+        Phase::Stop => false,
+        Phase::Parked => true,
+        Phase::Exchange => false,
+        Phase::Closed(_) => false,
+    }
+}
+
+/// Leaves this phase for another one.
+pub(crate) fn enter(phase: &mut Phase, next: Phase)
+    ensures { phase.new ≡ next }
+{
+    *phase = next;
 }
 
 impl<S: Session> Forwarder<S> {
-    ghost use Rattle.forwarder_world.specs.Link.{delivers, reads_back, next_to_pod, next_of_read};
-    ghost use Rattle.forwarder_world.specs.World.{start, gives, may_give, reads, forwards, pod_takes, passes};
-    ghost use Rattle.forwarder_core.specs.Built.{next};
-    ghost use Rattle.forwarder_core.specs.Stands.{ForwarderStands, Leads};
+    ghost use Rattle.session_model.specs.Heard.{has_ready};
+    ghost use Rattle.forwarder_world.specs.Link.{holds_nothing};
+    ghost use Rattle.forwarder_world.specs.World.{World as model, start, steps, happens, begins, holds, parks, stops};
+    ghost use Rattle.forwarder_world.specs.declared.event.Event.TheVariants as event;
+    ghost use Rattle.forwarder_core.specs.Starting.{CanStart};
+    ghost use Rattle.forwarder_core.specs.Flow.{ConnectionStands, flow_of};
+    ghost use Rattle.forwarder_core.specs.Stands.{ForwarderStands, Steps};
 
-    pub fn start(alloc: Global, params: &Params, key: ClientKey) -> Result<Forwarder<S>, NoMemory>
-        requires { Fits params.now }
-        ensures { IfOk result (λ w. ForwarderStands S.state S.Store.stands_for key w (start S.kind S.Store.rules params.now)) }
+    pub fn start(alloc: Global, params: Params, key: ClientKey) -> Result<Forwarder<S>, NoMemory>
+        requires { CanStart params }
+        ensures { IfOk result (λ w. ForwarderStands S.state S.Store.stands_for key params w (start S.kind S.Store.rules params)) }
     {
         Ok(Forwarder {
-            alloc,
-            key,
             phase: Phase::Running,
-            counts: Counts {
-                moves: 0,
-                failed: 0,
-                taken: 0,
-                forwarded: 0,
-                passed: 0,
-            },
-            request: Channel::new(alloc),
-            link: Link::open(alloc, params)?,
-            store: SharedStore::open(alloc)?,
-            greeted: false,
-            received: Bytes::new(alloc),
+            held: false,
+            exchange: None,
+            connection: Connection::start(alloc, params, key)?,
         })
     }
 
-    /// The client gives bytes.
-    fn give(&mut self, piece: &[u8]) -> Result<(), NoMemory>
-        ensures stands { OnOk result (Leads S.state S.Store.stands_for self.old self.new (λ key d. if may_give d piece.now then gives d piece.now else d)) }
-        ensures err { OnErr result (self.new.received ≡ self.old.received) }
+    /// Up to so many further bytes of the client are read.
+    fn read(&mut self, count: u32) -> Result<(), NoMemory>
+        ensures stands { OnOk result (Steps S.state S.Store.stands_for self.old self.new (λ key p d. steps S.kind S.Store.rules key p d (event.Read count))) }
+        ensures err { OnErr result (self.new.connection.received ≡ self.old.connection.received) }
     {
-        if !may_be_given(piece) {
+        if !is_forwarding(&self.phase) {
             return Ok(());
         }
-        self.request.give(piece)?;
-        Ok(())
-    }
-
-    /// Up to so many further bytes of the client come.
-    fn read(&mut self, count: u32) -> Result<(), NoMemory>
-        ensures stands { OnOk result (Leads S.state S.Store.stands_for self.old self.new (λ key d. reads d count)) }
-        ensures err { OnErr result (self.new.received ≡ self.old.received) }
-    {
-        let come = self.request.advance(count as usize)?;
-        self.counts.taken = self.counts.taken.saturating_add(come as u64);
+        self.connection.read(count as usize)?;
         Ok(())
     }
 
     /// The next message of the client is sent to the pod.
     fn forward(&mut self) -> Result<(), NoMemory>
-        ensures stands { OnOk result (Leads S.state S.Store.stands_for self.old self.new
-            (λ key d. forwards d (slice_get (frames (take d.read d.script)) (length d.forwarded)) (bad (take d.read d.script)))) }
-        ensures err { OnErr result (self.new.received ≡ self.old.received) }
+        ensures stands { OnOk result (Steps S.state S.Store.stands_for self.old self.new (λ key p d. steps S.kind S.Store.rules key p d event.Forward)) }
+        ensures err { OnErr result (self.new.connection.received ≡ self.old.connection.received) }
     {
-        match self.request.next()? {
-            Next::Frame(f) => {
-                self.link.send(&f)?;
-                self.counts.forwarded = self.counts.forwarded.saturating_add(1);
-                close_at_terminate(&mut self.phase, f.tag);
-                Ok(())
-            }
-            Next::Need => Ok(()),
-            Next::BadLength(n) => {
-                close(&mut self.phase, Close::BadClient(n));
-                Ok(())
-            }
+        if !is_forwarding(&self.phase) {
+            return Ok(());
         }
-    }
-
-    /// Up to so many further bytes reach the pod.
-    fn deliver(&mut self, count: u32) -> Result<(), NoMemory>
-        ensures stands { OnOk result (Leads S.state S.Store.stands_for self.old self.new (λ key d. record d { link = delivers d.link count })) }
-        ensures err { OnErr result (self.new.received ≡ self.old.received) }
-    {
-        self.link.deliver(count as usize)?;
+        let why = self.connection.forward()?;
+        close(&mut self.phase, why);
         Ok(())
     }
 
-    /// The pod takes the next message.
-    fn pod(&mut self) -> Result<(), NoMemory>
-        ensures stands { OnOk result (Leads S.state S.Store.stands_for self.old self.new (λ key d. pod_takes S.kind S.Store.rules d d.link.session (next_to_pod d.link))) }
-        ensures err { OnErr result (self.new.received ≡ self.old.received) }
-    {
-        self.link.hear(self.alloc, &mut self.store)?;
-        Ok(())
-    }
-
-    /// Up to so many further bytes of the pod come.
+    /// Up to so many further bytes of the pod are read.
     fn back(&mut self, count: u32) -> Result<(), NoMemory>
-        ensures stands { OnOk result (Leads S.state S.Store.stands_for self.old self.new (λ key d. record d { link = reads_back d.link count })) }
-        ensures err { OnErr result (self.new.received ≡ self.old.received) }
+        ensures stands { OnOk result (Steps S.state S.Store.stands_for self.old self.new (λ key p d. steps S.kind S.Store.rules key p d (event.Back count))) }
+        ensures err { OnErr result (self.new.connection.received ≡ self.old.connection.received) }
     {
-        self.link.read_back(count as usize)?;
+        if self.held {
+            return Ok(());
+        }
+        self.connection.back(count as usize)?;
         Ok(())
     }
 
     /// The next message of the pod is passed to the client.
     fn pass(&mut self) -> Result<(), NoMemory>
-        ensures stands { OnOk result (Leads S.state S.Store.stands_for self.old self.new (λ key d. passes key d (next_of_read d.link))) }
-        ensures err { OnErr result (self.new.received ≡ self.old.received) }
+        ensures stands { OnOk result (Steps S.state S.Store.stands_for self.old self.new (λ key p d. steps S.kind S.Store.rules key p d event.Pass)) }
+        ensures err { OnErr result (self.new.connection.received ≡ self.old.connection.received) }
     {
-        match self.link.next_reply()? {
-            None => Ok(()),
-            Some(f) => {
-                let greeted = is_greeted(self.greeted, f.tag);
-                let g = shown(self.alloc, self.greeted, self.key, f)?;
-                write_frame(&g, &mut self.received)?;
-                self.greeted = greeted;
-                self.counts.passed = self.counts.passed.saturating_add(1);
+        if self.held {
+            return Ok(());
+        }
+        let why = self.connection.pass()?;
+        close(&mut self.phase, why);
+        Ok(())
+    }
+
+    fn may_stop(&self) -> bool
+        ensures { (key : Key) (p : List Pair) (d : model S.State S.Store.State S.Store.Command) → is_closed_mode d.mode ≡ false → ForwarderStands S.state S.Store.stands_for key p self.now d → result ≡ (runs_on d.mode && has_ready d.passed) }
+    {
+        is_running(&self.phase) && self.connection.is_greeted()
+    }
+
+    fn may_hold(&self) -> bool
+        ensures { (key : Key) (p : List Pair) (d : model S.State S.Store.State S.Store.Command) → is_closed_mode d.mode ≡ false → ForwarderStands S.state S.Store.stands_for key p self.now d → result ≡ (may_hold d.mode && holds_nothing d.link) }
+    {
+        is_parked(&self.phase) && self.connection.holds_nothing()
+    }
+
+    fn may_begin(&self) -> bool
+        ensures { (key : Key) (p : List Pair) (d : model S.State S.Store.State S.Store.Command) → is_closed_mode d.mode ≡ false → ForwarderStands S.state S.Store.stands_for key p self.now d → result ≡ (may_hold d.mode && is_held d.mode) }
+    {
+        is_parked(&self.phase) && self.held
+    }
+
+    /// It is to stop, once the greeting has ended.
+    fn stop(&mut self)
+        ensures stands { Steps S.state S.Store.stands_for self.old self.new (λ key p d. stops d d.mode) }
+        ensures kept { self.new.connection.received ≡ self.old.connection.received }
+    {
+        if self.may_stop() {
+            enter(&mut self.phase, Phase::Stop);
+        }
+    }
+
+    /// The request side is suspended.
+    fn park(&mut self)
+        ensures stands { Steps S.state S.Store.stands_for self.old self.new (λ key p d. parks d d.mode) }
+        ensures kept { self.new.connection.received ≡ self.old.connection.received }
+    {
+        if is_stopping(&self.phase) {
+            self.connection.park();
+            enter(&mut self.phase, Phase::Parked);
+        }
+    }
+
+    /// The response side is suspended, where it holds nothing.
+    fn hold(&mut self)
+        ensures stands { Steps S.state S.Store.stands_for self.old self.new (λ key p d. holds d d.mode) }
+        ensures kept { self.new.connection.received ≡ self.old.connection.received }
+    {
+        if self.may_hold() {
+            self.connection.hold();
+            self.held = true;
+        }
+    }
+
+    /// Both sides go on.
+    pub(crate) fn go_on(&mut self)
+        ensures stands { (key : Key) (p : List Pair) (d : model S.State S.Store.State S.Store.Command) (parked held : Bool) → ConnectionStands S.state S.Store.stands_for key p self.old.connection (flow_of d) parked held
+            → ForwarderStands S.state S.Store.stands_for key p self.new (record d { mode = Running }) }
+        ensures kept { self.new.connection.received ≡ self.old.connection.received }
+    {
+        self.connection.resume();
+        self.held = false;
+        self.exchange = None;
+        enter(&mut self.phase, Phase::Running);
+    }
+
+    /// A transfer begins, where both sides are suspended and the session may be moved. Elsewhere they
+    /// go on.
+    fn begin(&mut self, key: &TransferKey) -> Result<(), NoMemory>
+        ensures stands { OnOk result (Steps S.state S.Store.stands_for self.old self.new (λ _ p d. begins d key.now d.mode)) }
+        ensures err { OnErr result (self.new.connection.received ≡ self.old.connection.received) }
+    {
+        if !self.may_begin() {
+            return Ok(());
+        }
+        if !self.connection.is_safe() {
+            self.go_on();
+            return Ok(());
+        }
+        let exchange = self.connection.exchange(key)?;
+        self.exchange = Some(exchange);
+        enter(&mut self.phase, Phase::Exchange);
+        Ok(())
+    }
+
+    /// One event, where it isn't closed.
+    fn act(&mut self, e: &Event<<S::Store as Machine>::Command>) -> Result<(), NoMemory>
+        ensures stands { OnOk result (Steps S.state S.Store.stands_for self.old self.new (λ key p d. steps S.kind S.Store.rules key p d e.now)) }
+        ensures err { OnErr result (self.new.connection.received ≡ self.old.connection.received) }
+    {
+        match e {
+            Event::Give(b) => self.connection.give(b.as_slice()),
+            Event::Eof => {
+                self.connection.end();
+                Ok(())
+            }
+            Event::Read(n) => self.read(*n),
+            Event::Forward => self.forward(),
+            Event::Deliver(n) => self.connection.deliver(*n as usize),
+            Event::Pod => self.connection.pod(),
+            Event::Back(n) => self.back(*n),
+            Event::Pass => self.pass(),
+            Event::Other(c) => self.connection.other(c),
+            Event::Stop => {
+                self.stop();
+                Ok(())
+            }
+            Event::Park => {
+                self.park();
+                Ok(())
+            }
+            Event::Hold => {
+                self.hold();
+                Ok(())
+            }
+            Event::Start(t) => self.begin(t),
+            Event::Move => self.advance(),
+            Event::DeliverNew(n) => self.connection.deliver_new(*n as usize),
+            Event::PodNew => self.connection.pod_new(),
+            Event::Cut(n) => {
+                self.connection.cut(*n as usize);
+                Ok(())
+            }
+            Event::CutNew(n) => {
+                self.connection.cut_new(*n as usize);
+                Ok(())
+            }
+            Event::NoDial => {
+                self.connection.fail_next_dial();
                 Ok(())
             }
         }
     }
 
-    /// One event, where the World is running.
-    fn act(&mut self, e: &Event<<S::Store as Machine>::Command>) -> Result<(), NoMemory>
-        requires { self.old.phase ≡ Phase.Running }
-        ensures stands { OnOk result ((p : List Pair) → Leads S.state S.Store.stands_for self.old self.new (λ key d. next S.kind S.Store.rules key p d e.now)) }
-        ensures err { OnErr result (self.new.received ≡ self.old.received) }
-    {
-        match e {
-            Event::Give(b) => self.give(b.as_slice()),
-            Event::Read(n) => self.read(*n),
-            Event::Forward => self.forward(),
-            Event::Deliver(n) => self.deliver(*n),
-            Event::Pod => self.pod(),
-            Event::Back(n) => self.back(*n),
-            Event::Pass => self.pass(),
-            Event::Eof
-            | Event::Other(_)
-            | Event::Stop
-            | Event::Park
-            | Event::Hold
-            | Event::Start(_)
-            | Event::Move
-            | Event::DeliverNew(_)
-            | Event::PodNew
-            | Event::Cut(_)
-            | Event::CutNew(_)
-            | Event::NoDial => Ok(()),
-        }
-    }
-
     /// One event. A closed World stays as it is.
     pub fn step(&mut self, e: &Event<<S::Store as Machine>::Command>) -> Result<(), NoMemory>
-        ensures stands { OnOk result ((p : List Pair) → Leads S.state S.Store.stands_for self.old self.new (λ key d. next S.kind S.Store.rules key p d e.now)) }
-        ensures err { OnErr result (self.new.received ≡ self.old.received) }
+        ensures stands { OnOk result ((key : Key) (p : List Pair) (d : model S.State S.Store.State S.Store.Command) → ForwarderStands S.state S.Store.stands_for key p self.old d → ForwarderStands S.state S.Store.stands_for key p self.new (happens S.kind S.Store.rules key p d e.now)) }
+        ensures err { OnErr result (self.new.connection.received ≡ self.old.connection.received) }
     {
-        match self.phase {
-            Phase::Running => self.act(e),
-            Phase::Stop => Ok(()),
-            Phase::Parked => Ok(()),
-            Phase::Exchange => Ok(()),
-            Phase::Closed(_) => Ok(()),
+        if is_closed(&self.phase) {
+            return Ok(());
         }
+        self.act(e)?;
+        Ok(())
     }
 
     pub fn received(&self) -> &[u8]
-        ensures { result.now ≡ self.now.received }
+        ensures { result.now ≡ self.now.connection.received }
     {
-        self.received.as_slice()
+        self.connection.received()
     }
 
     pub fn phase(&self) -> &Phase
@@ -226,8 +332,8 @@ impl<S: Session> Forwarder<S> {
     }
 
     pub fn counts(&self) -> Counts
-        ensures { result ≡ self.now.counts }
+        ensures { result ≡ self.now.connection.counts }
     {
-        self.counts
+        self.connection.counts()
     }
 }

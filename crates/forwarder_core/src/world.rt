@@ -4,7 +4,7 @@ ghost use Rattle.std.specs.Prelude.{List, ℕ, ◌≡◌, ◌≤◌, take, lengt
 ghost use Rattle.pgw_messages.specs.Startup.{Fits};
 ghost use Rattle.pgw_messages.specs.declared.params.Pair.{Pair};
 ghost use Rattle.proxy_outside.specs.declared.identity.ClientKey.{ClientKey as Key};
-ghost use Rattle.forwarder_world.specs.World.{World as model, start, phase_of, counts_of};
+ghost use Rattle.forwarder_world.specs.World.{World as model, start, happens, run, phase_of, counts_of};
 ghost use Rattle.forwarder_world.specs.declared.event.Event.{Event as Happening};
 
 use crate::forwarder::Forwarder;
@@ -25,26 +25,26 @@ pub struct World<S: Session> {
 }
 
 impl<S: Session> World<S> {
-    ghost use Rattle.forwarder_core.specs.Built.{next, runs, world_of};
     ghost use Rattle.forwarder_core.specs.Starting.{CanStart};
     ghost use Rattle.forwarder_core.specs.Stands.{WorldStands, is_given_up, received_of};
-    ghost use Rattle.forwarder_core.specs.Hears.{Hears};
+    ghost use Rattle.forwarder_core.specs.Hears.{Hears, Turns};
 
     /// A World whose pod has taken the startup packet and greets, and whose client has given and
     /// received nothing.
     pub fn start(alloc: Global, params: Params, key: ClientKey) -> Result<World<S>, NoMemory>
         requires { CanStart params }
-        ensures { IfOk result (λ w. WorldStands S.state S.Store.stands_for key w (start S.kind S.Store.rules params)) }
+        ensures { IfOk result (λ w. WorldStands S.state S.Store.stands_for key params w (start S.kind S.Store.rules params)) }
     {
         Ok(World {
-            forwarder: Forwarder::start(alloc, &params, key)?,
+            forwarder: Forwarder::start(alloc, params, key)?,
             given_up: false,
         })
     }
 
     /// One event. One whose condition fails changes nothing.
     pub fn step(&mut self, e: &Event<<S::Store as Machine>::Command>) -> Result<(), NoMemory>
-        ensures stands { OnOk result ((key : Key) (p : List Pair) (d : model S.State S.Store.State S.Store.Command) → WorldStands S.state S.Store.stands_for key self.old d → WorldStands S.state S.Store.stands_for key self.new (next S.kind S.Store.rules key p d e.now)) }
+        ensures stands { OnOk result ((key : Key) (p : List Pair) (d : model S.State S.Store.State S.Store.Command) → WorldStands S.state S.Store.stands_for key p self.old d → WorldStands S.state S.Store.stands_for key p self.new (happens S.kind S.Store.rules key p d e.now)) }
+        ensures turns { (key : Key) (p : List Pair) (d : model S.State S.Store.State S.Store.Command) → WorldStands S.state S.Store.stands_for key p self.old d → Turns S.kind S.Store.rules key p d e.now }
         ensures err { OnErr result (IsTrue (is_given_up self.new)) }
         ensures kept { OnErr result (received_of self.new ≡ received_of self.old) }
         ensures given_up { IsTrue (is_given_up self.old) → IsErr result }
@@ -61,9 +61,9 @@ impl<S: Session> World<S> {
     /// A whole schedule. After an `Err` what was received is that of the events before the one that
     /// found no memory.
     pub fn run(&mut self, es: &[Event<<S::Store as Machine>::Command>]) -> Result<(), NoMemory>
-        ensures stands { OnOk result ((key : Key) (p : List Pair) (d : model S.State S.Store.State S.Store.Command) → WorldStands S.state S.Store.stands_for key self.old d → WorldStands S.state S.Store.stands_for key self.new (runs S.kind S.Store.rules key p d es.now)) }
+        ensures stands { OnOk result ((key : Key) (p : List Pair) (d : model S.State S.Store.State S.Store.Command) → WorldStands S.state S.Store.stands_for key p self.old d → WorldStands S.state S.Store.stands_for key p self.new (run S.kind S.Store.rules key p d es.now)) }
         ensures err { OnErr result (IsTrue (is_given_up self.new)) }
-        ensures kept { OnErr result ((key : Key) (p : List Pair) (d : model S.State S.Store.State S.Store.Command) → WorldStands S.state S.Store.stands_for key self.old d → (n : ℕ) × (received_of self.new ≡ (runs S.kind S.Store.rules key p d (take n es.now)).received)) }
+        ensures kept { OnErr result ((key : Key) (p : List Pair) (d : model S.State S.Store.State S.Store.Command) → WorldStands S.state S.Store.stands_for key p self.old d → (n : ℕ) × (received_of self.new ≡ (run S.kind S.Store.rules key p d (take n es.now)).received)) }
     {
         for e in es {
             self.step(e)?;
@@ -75,22 +75,22 @@ impl<S: Session> World<S> {
     /// forwarded messages, each once and in order, and was never moved.
     pub fn received(&self) -> &[u8]
         ensures value { result.now ≡ received_of self.now }
-        ensures stands { (key : Key) (d : model S.State S.Store.State S.Store.Command) → WorldStands S.state S.Store.stands_for key self.now d → result.now ≡ d.received }
-        ensures headline { (key : Key) (p : List Pair) (es : List (Happening S.Store.Command)) → Fits p → WorldStands S.state S.Store.stands_for key self.now (world_of S.kind S.Store.rules key p es) → Hears S.kind S.Store.rules key p (world_of S.kind S.Store.rules key p es) result.now }
+        ensures stands { (key : Key) (p : List Pair) (d : model S.State S.Store.State S.Store.Command) → WorldStands S.state S.Store.stands_for key p self.now d → result.now ≡ d.received }
+        ensures headline { (key : Key) (p : List Pair) (es : List (Happening S.Store.Command)) → Fits p → WorldStands S.state S.Store.stands_for key p self.now (run S.kind S.Store.rules key p (start S.kind S.Store.rules p) es) → Hears S.kind S.Store.rules key p (run S.kind S.Store.rules key p (start S.kind S.Store.rules p) es) result.now }
     {
         self.forwarder.received()
     }
 
     /// Where it stands.
     pub fn phase(&self) -> &Phase
-        ensures { (key : Key) (d : model S.State S.Store.State S.Store.Command) → WorldStands S.state S.Store.stands_for key self.now d → result.now ≡ phase_of d.mode }
+        ensures { (key : Key) (p : List Pair) (d : model S.State S.Store.State S.Store.Command) → WorldStands S.state S.Store.stands_for key p self.now d → result.now ≡ phase_of d.mode }
     {
         self.forwarder.phase()
     }
 
     /// What it counted.
     pub fn counts(&self) -> Counts
-        ensures { (key : Key) (d : model S.State S.Store.State S.Store.Command) → WorldStands S.state S.Store.stands_for key self.now d → result ≡ counts_of d }
+        ensures { (key : Key) (p : List Pair) (d : model S.State S.Store.State S.Store.Command) → WorldStands S.state S.Store.stands_for key p self.now d → result ≡ counts_of d }
     {
         self.forwarder.counts()
     }

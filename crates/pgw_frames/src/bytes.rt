@@ -106,14 +106,11 @@ impl Bytes {
         ensures ok { OnOk result (self.new ≡ self.old ++ (tag ∷ to_be_bytes w32 (length body.now + 4) ++ body.now)) }
         ensures err { OnErr result (self.new ≡ self.old) }
     {
-        let before = self.items.len();
         let l = (body.len() as u32 + 4).to_be_bytes();
+        self.items.reserve(5 + body.len())?;
         self.items
             .extend_from_slice(&[tag, l[0], l[1], l[2], l[3]])?;
-        if self.items.extend_from_slice(body).is_err() {
-            self.items.truncate(before);
-            return Err(NoMemory);
-        }
+        self.items.extend_from_slice(body)?;
         Ok(())
     }
 }

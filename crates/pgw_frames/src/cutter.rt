@@ -38,7 +38,7 @@ impl Model for Cutter {
 
 /// What stands at the front of these bytes, and how many bytes it takes.
 #[tactic(auto, unfolding(crate::specs::Frames::front))]
-fn next_of(alloc: Global, bytes: &[u8]) -> Result<(Next, usize), NoMemory>
+pub(crate) fn next_of(alloc: Global, bytes: &[u8]) -> Result<(Next, usize), NoMemory>
     ensures answer { IfOk result (λ r. Answers r.0 bytes.now (drop r.1 bytes.now)) }
     ensures good { IfOk result (λ r. HasGoodFrame r.0) }
     ensures count { IfOk result (λ r. r.1 ≤ length bytes.now) }
@@ -91,8 +91,7 @@ impl Cutter {
         ensures no_memory { OnErr result (HasFrame (front self.old)) }
         ensures err { OnErr result (self.new ≡ self.old) }
     {
-        let (next, count) = next_of(self.held.allocator(), self.held.as_slice())?;
-        self.held.drop_front(count);
+        let next = self.held.next_frame()?;
         Ok(next)
     }
 

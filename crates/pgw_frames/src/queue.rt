@@ -1,9 +1,11 @@
 //! Bytes that come in at one end and go at the other.
 
-ghost use Rattle.std.specs.Prelude.{◌≡◌, ◌==◌, ◌≤◌, [], ◌++◌, length, drop, OnOk, OnErr};
-ghost use Rattle.pgw_frames.specs.Frames.{frame_bytes};
+ghost use Rattle.std.specs.Prelude.{◌≡◌, ◌==◌, ◌≤◌, [], ◌++◌, length, take, drop, IfOk, OnOk, OnErr};
+ghost use Rattle.pgw_frames.specs.Frames.{front, frame_bytes};
+ghost use Rattle.pgw_frames.specs.Cutting.{Answers, HasGoodFrame, HasFrame};
 
 use crate::bytes::Bytes;
+use crate::cutter::{Next, next_of};
 use crate::frame::{Frame, MOST_BODY, write_frame};
 use crate::memory::NoMemory;
 use std::alloc::Global;
@@ -76,6 +78,28 @@ impl ByteQueue {
     {
         let left = self.len() - count;
         self.start = self.bytes.len() - left;
+    }
+
+    /// Keeps the first bytes alone. It takes no memory.
+    pub fn truncate(&mut self, count: usize)
+        ensures { self.new ≡ take count self.old }
+    {
+        if count < self.len() {
+            let gone = self.len() - count;
+            self.bytes.truncate(self.bytes.len() - gone);
+        }
+    }
+
+    /// Takes off the frame at the front, where a whole one stands there. Only a frame takes memory.
+    pub fn next_frame(&mut self) -> Result<Next, NoMemory>
+        ensures ok { IfOk result (λ r. Answers r self.old self.new) }
+        ensures good { IfOk result HasGoodFrame }
+        ensures no_memory { OnErr result (HasFrame (front self.old)) }
+        ensures err { OnErr result (self.new ≡ self.old) }
+    {
+        let (next, count) = next_of(self.allocator(), self.as_slice())?;
+        self.drop_front(count);
+        Ok(next)
     }
 
     pub fn len(&self) -> usize

@@ -1,6 +1,7 @@
 //! The client's direction.
 
-ghost use Rattle.std.specs.Prelude.{◌≡◌, ℕ, Bool, true, false, List, [], ◌++◌, IfOk, OnOk, OnErr};
+ghost use Rattle.std.specs.Prelude.{◌≡◌, ◌==◌, ℕ, Bool, true, false, List, [], ◌++◌, length, IfOk, OnOk, OnErr};
+ghost use Rattle.pgw_frames.specs.Frames.{render};
 ghost use Rattle.pgw_frames.specs.declared.frame.Frame.{Frame as Message};
 ghost use Rattle.processor_core.specs.Streams.{StepOf, HasMessage, HasGoodFrame, handed_by};
 ghost use Rattle.processor_core.specs.Tallies.{request_tally};
@@ -65,6 +66,13 @@ impl Request {
         ensures { (fed : List ℕ) (handed : List Message) (suspended : Bool) → RequestStands self.old fed handed suspended → RequestStands self.new fed handed false }
     {
         self.stream.resume();
+    }
+
+    /// Whether all that was fed was handed out.
+    pub fn is_empty(&self) -> bool
+        ensures { (fed : List ℕ) (handed : List Message) (suspended : Bool) → RequestStands self.now fed handed suspended → result ≡ (length fed == length (render handed)) }
+    {
+        self.stream.is_empty()
     }
 
     /// What was counted of all that was handed out.

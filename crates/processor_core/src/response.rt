@@ -9,7 +9,7 @@ ghost use Rattle.processor_core.specs.Stands.{ResponseStands, ResponseKeeps};
 use crate::step::Step;
 use crate::stream::Stream;
 use crate::tally::{Replies, ResponseTally};
-use pgw_frames::NoMemory;
+use pgw_frames::{Cutter, NoMemory};
 use std::alloc::Global;
 
 /// The messages of a pod behind its greeting, over the whole session. Contracts see what was fed, what was
@@ -27,6 +27,17 @@ impl Response {
     {
         Response {
             stream: Stream::new(alloc),
+            replies: Replies::new(),
+        }
+    }
+
+    /// A processor to which was fed what a cutter holds, once it has cut off the greeting. It takes no
+    /// memory.
+    pub fn behind(greeting: Cutter) -> Response
+        ensures { ResponseStands result greeting [] false }
+    {
+        Response {
+            stream: Stream::behind(greeting),
             replies: Replies::new(),
         }
     }

@@ -27,6 +27,16 @@ impl Stream {
         }
     }
 
+    /// A stream of which all that came is still held.
+    pub fn behind(cutter: Cutter) -> Stream
+        ensures { StreamStands result cutter [] false }
+    {
+        Stream {
+            cutter,
+            suspended: false,
+        }
+    }
+
     /// The stream goes on with these bytes. An `Err` changes nothing.
     pub fn feed(&mut self, piece: &[u8]) -> Result<(), NoMemory>
         ensures ok { OnOk result ((fed : List ℕ) (handed : List Message) (suspended : Bool) → StreamStands self.old fed handed suspended → StreamStands self.new (fed ++ piece.now) handed suspended) }

@@ -1,10 +1,11 @@
 -- Decimal numbers of a schedule's lines.
-use Rattle.std.proofs.Common.{◌≡◌, ◌≢◌, ℕ, ◌+◌, ◌*◌, ◌-◌, ◌<◌, ◌≤◌, ◌^◌, true, List, [], ◌∷◌, length, get_or, Option, Some, None, zero, suc, ◌++◌, sym, ap, ◌∙◌, arith, rules, inl, inr}
+use Rattle.std.proofs.Common.{◌≡◌, ◌≢◌, ℕ, ◌+◌, ◌*◌, ◌-◌, ◌<◌, ◌≤◌, ◌^◌, true, false, List, [], ◌∷◌, length, get_or, Option, Some, None, zero, suc, ◌++◌, refl, sym, ap, subst, ◌∙◌, arith, rules, inl, inr}
 use Rattle.std.specs.Str.{all_ascii_digits}
 use Rattle.std.specs.Fmt.{decimal}
 use Rattle.std.proofs.lemmas.Str.Parse.{IsNumeralModel, numerals_by_fold}
 use Rattle.std.proofs.lemmas.Fmt.{digits_decimal, digits_value-decimal, decimal-digits_value, first_decimal, decimal_nonempty, decimal_digit}
-use Rattle.std.proofs.lemmas.Bool.{cases_lt}
+use Rattle.std.specs.Prelude.{◌==◌}
+use Rattle.std.proofs.lemmas.Bool.{cases_lt, cases_Bool, eqb-true}
 use Rattle.std.proofs.lemmas.List.{append_cancel_left}
 use Rattle.proxy_replay.specs.Numbers.{read_on, ReadsDigits, SpellsNumber}
 
@@ -56,3 +57,14 @@ pub spells_behind : (word line text : List ℕ) (r : Option ℕ) → line ≡ wo
     → ((1 < length text) × (get_or text 0 0 ≡ 48) → ⊥) → SpellsNumber word line r
 spells_behind word line text (Some n) is h some lead = (is ∙ ap (λ t. word ++ t) (digits_spell text n h some (lone_zero text some lead)), h.2)
 spells_behind word line text None is h some lead = λ n le. behind_differs word line text (decimal n) is (others_spell_none text h n le)
+
+-- no number begins with the letter of `new`
+first_digit : (ds : List ℕ) → all_ascii_digits ds ≡ true → (get_or ds 0 0 == 110) ≡ false
+first_digit [] h = refl
+first_digit (c ∷ cs) h = elim (cases_Bool (c == 110)) [
+  | inl y ↦ absurd (let is : c ≡ 110 = eqb-true c 110 y in let no_digit : all_ascii_digits (110 ∷ cs) ≡ true = subst (λ (x : ℕ). all_ascii_digits (x ∷ cs) ≡ true) is h in cc)
+  | inr n ↦ n
+]
+
+pub no_letter : (n : ℕ) → n ≤ 65535 → (get_or (decimal n) 0 0 == 110) ≡ false
+no_letter n le = first_digit (decimal n) (digits_decimal own n (omega arith))

@@ -3,7 +3,9 @@ pub mod HexRows
 pub mod Digits
 pub mod LowerHex
 pub mod Cuts
+pub mod Keys
 pub mod ReadTo
 pub mod OneReading
 pub mod Starting
 pub mod Ends
+pub mod Turns

@@ -8,39 +8,39 @@ use Rattle.proxy_replay.specs.Schedule.{lines_of, with_byte, SpellEvents, IsSche
 use Rattle.proxy_replay.proofs.Cuts.{no_lines}
 
 -- before the first line
-pub read_none : {C : Type 0} (text : List ℕ) → IsReadTo {C = C} text [] text
-read_none text = record { read = []; lines = refl; events = tt }
+pub read_none : {C : Type 0} (says : List ℕ → C → Type 0) (text : List ℕ) → IsReadTo says text [] text
+read_none says text = record { read = []; lines = refl; events = tt }
 
-one_more : {C : Type 0} (lines : List (List ℕ)) (es : List (Event C)) (line : List ℕ) (e : Event C) → SpellEvents lines es → Spells line e
-    → SpellEvents (lines ++ line ∷ []) (es ++ e ∷ [])
-one_more [] [] line e p q = (q, tt)
-one_more [] (f ∷ es) line e p q = absurd p
-one_more (l ∷ lines) [] line e p q = absurd p
-one_more (l ∷ lines) (f ∷ es) line e p q = (p.0, one_more lines es line e p.1 q)
+one_more : {C : Type 0} (says : List ℕ → C → Type 0) (lines : List (List ℕ)) (es : List (Event C)) (line : List ℕ) (e : Event C) → SpellEvents says lines es → Spells says line e
+    → SpellEvents says (lines ++ line ∷ []) (es ++ e ∷ [])
+one_more says [] [] line e p q = (q, tt)
+one_more says [] (f ∷ es) line e p q = absurd p
+one_more says (l ∷ lines) [] line e p q = absurd p
+one_more says (l ∷ lines) (f ∷ es) line e p q = (p.0, one_more says lines es line e p.1 q)
 
 -- a line that spells an event
-pub read_more : {C : Type 0} (text : List ℕ) (es : List (Event C)) (left line more : List ℕ) (e : Event C) → IsReadTo text es left
-    → lines_of left ≡ line ∷ lines_of more → Spells line e → IsReadTo text (es ++ e ∷ []) more
-read_more text es left line more e p next q = record {
+pub read_more : {C : Type 0} (says : List ℕ → C → Type 0) (text : List ℕ) (es : List (Event C)) (left line more : List ℕ) (e : Event C) → IsReadTo says text es left
+    → lines_of left ≡ line ∷ lines_of more → Spells says line e → IsReadTo says text (es ++ e ∷ []) more
+read_more says text es left line more e p next q = record {
   read = p.read ++ line ∷ [];
   lines = p.lines ∙ ap (λ (ls : List (List ℕ)). p.read ++ ls) next ∙ sym (append_assoc p.read (line ∷ []) (lines_of more));
-  events = one_more p.read es line e p.events q;
+  events = one_more says p.read es line e p.events q;
 }
 
 -- after the last line
-pub read_whole : {C : Type 0} (text : List ℕ) (es : List (Event C)) → IsReadTo text es [] → IsSchedule text es
-read_whole text es p = rw (p.lines, no_lines, append-nil p.read) p.events
+pub read_whole : {C : Type 0} (says : List ℕ → C → Type 0) (text : List ℕ) (es : List (Event C)) → IsReadTo says text es [] → IsSchedule says text es
+read_whole says text es p = rw (p.lines, no_lines, append-nil p.read) p.events
 
-as_many : {C : Type 0} (lines : List (List ℕ)) (es : List (Event C)) → SpellEvents lines es → length lines ≡ length es
-as_many [] [] p = refl
-as_many [] (e ∷ es) p = absurd p
-as_many (l ∷ lines) [] p = absurd p
-as_many (l ∷ lines) (e ∷ es) p = let h = as_many lines es p.1 in omega (arith, h)
+as_many : {C : Type 0} (says : List ℕ → C → Type 0) (lines : List (List ℕ)) (es : List (Event C)) → SpellEvents says lines es → length lines ≡ length es
+as_many says [] [] p = refl
+as_many says [] (e ∷ es) p = absurd p
+as_many says (l ∷ lines) [] p = absurd p
+as_many says (l ∷ lines) (e ∷ es) p = let h = as_many says lines es p.1 in omega (arith, h)
 
 -- a line that spells none
-pub read_bad : {C : Type 0} (text : List ℕ) (es : List (Event C)) (left line more : List ℕ) → IsReadTo text es left
-    → lines_of left ≡ line ∷ lines_of more → SpellsNothing C line → IsFirstBad C text (length es + 1)
-read_bad text es left line more p next q = record {
+pub read_bad : {C : Type 0} (says : List ℕ → C → Type 0) (text : List ℕ) (es : List (Event C)) (left line more : List ℕ) → IsReadTo says text es left
+    → lines_of left ≡ line ∷ lines_of more → SpellsNothing says line → IsFirstBad says text (length es + 1)
+read_bad says text es left line more p next q = record {
   good = p.read;
   bad = line;
   others = lines_of more;
@@ -48,7 +48,7 @@ read_bad text es left line more p next q = record {
   lines = p.lines ∙ ap (λ (ls : List (List ℕ)). p.read ++ ls) next;
   spelled = p.events;
   nothing = q;
-  number = (let h = as_many p.read es p.events in omega (arith, h));
+  number = (let h = as_many says p.read es p.events in omega (arith, h));
 }
 
 few_lines : (text : List ℕ) → length (lines_of text) ≤ length text
@@ -62,8 +62,8 @@ few_lines (x ∷ text) = by (x == 10) (lines_of text) (few_lines text)
     by false (l ∷ ls) le = omega arith
 
 -- no more events than bytes
-pub few_events : {C : Type 0} (text : List ℕ) (es : List (Event C)) (left : List ℕ) → IsReadTo text es left → length es ≤ length text
-few_events text es left p =
-    let many = as_many p.read es p.events in
+pub few_events : {C : Type 0} (says : List ℕ → C → Type 0) (text : List ℕ) (es : List (Event C)) (left : List ℕ) → IsReadTo says text es left → length es ≤ length text
+few_events says text es left p =
+    let many = as_many says p.read es p.events in
     let all : length (lines_of text) ≡ length p.read + length (lines_of left) = ap length p.lines ∙ length-append p.read (lines_of left) in
     omega (arith, few_lines text)

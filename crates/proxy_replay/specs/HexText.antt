@@ -1,7 +1,9 @@
 -- Bytes in a line of a schedule: pairs of hexadecimal digits in lower case.
-use Rattle.std.specs.Prelude.{◌≡◌, ◌≢◌, ℕ, ◌-◌, ◌<◌, ◌&&◌, ◌||◌, nat_le, Bool, true, false, if◌then◌else◌, List, [], ◌∷◌, ◌++◌, length, Option, Some, None, IsTrue}
+use Rattle.std.specs.Prelude.{◌≡◌, ◌≢◌, ℕ, ◌-◌, ◌^◌, ◌<◌, ◌&&◌, ◌||◌, nat_le, Bool, true, false, if◌then◌else◌, List, [], ◌∷◌, ◌++◌, length, Option, Some, None, IsTrue}
 use Rattle.std.specs.List.{AllPass}
 use Rattle.hex.specs.Hex.{encode_lower, IsBytes}
+use Rattle.session_model.specs.Texts.{key_bytes}
+use Rattle.session_model.specs.declared.transfer.TransferKey.{TransferKey}
 
 -- a digit from 0 to 9, or from a to f
 abbrev pub is_lower_digit : ℕ → Bool
@@ -33,3 +35,13 @@ IsSomeBytes b = (0 < length b) × IsBytes b
 abbrev pub SpellsBytes : List ℕ → List ℕ → Option (List ℕ) → Type 0
 SpellsBytes word text (Some b) = (text ≡ word ++ encode_lower b) × IsSomeBytes b
 SpellsBytes word text None = (b : List ℕ) → IsSomeBytes b → text ≢ word ++ encode_lower b
+
+-- the key that these bytes are
+abbrev pub IsKeyOf : List ℕ → Option TransferKey → Type 0
+IsKeyOf bytes (Some key) = (IsBytes bytes → bytes ≡ key_bytes key) × (key.high < 2 ^ 64) × (key.low < 2 ^ 64)
+IsKeyOf bytes None = (key : TransferKey) → bytes ≢ key_bytes key
+
+-- the key that is spelled, behind this word
+abbrev pub SpellsKey : List ℕ → List ℕ → Option TransferKey → Type 0
+SpellsKey word text (Some key) = (text ≡ word ++ encode_lower (key_bytes key)) × (key.high < 2 ^ 64) × (key.low < 2 ^ 64)
+SpellsKey word text None = (key : TransferKey) → text ≢ word ++ encode_lower (key_bytes key)

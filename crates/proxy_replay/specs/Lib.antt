@@ -3,8 +3,12 @@ pub mod Outputs
 pub mod Numbers
 pub mod HexText
 pub mod Lines
+pub mod TallyCommands
 pub mod Schedule
 pub mod Report
+pub mod Summary
 pub mod Client
 pub mod Playing
+pub mod Generating
+pub mod Generations
 pub mod Replaying

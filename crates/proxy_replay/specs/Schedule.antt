@@ -14,29 +14,29 @@ lines_of [] = []
 lines_of (x ∷ text) = if x == 10 then [] ∷ lines_of text else with_byte x (lines_of text)
 
 -- the lines spell the events, one for one
-abbrev pub SpellEvents : {C : Type 0} → List (List ℕ) → List (Event C) → Type 0
-SpellEvents [] [] = Unit {0}
-SpellEvents [] (e ∷ es) = ⊥
-SpellEvents (line ∷ lines) [] = ⊥
-SpellEvents (line ∷ lines) (e ∷ es) = Spells line e × SpellEvents lines es
+abbrev pub SpellEvents : {C : Type 0} → (List ℕ → C → Type 0) → List (List ℕ) → List (Event C) → Type 0
+SpellEvents says [] [] = Unit {0}
+SpellEvents says [] (e ∷ es) = ⊥
+SpellEvents says (line ∷ lines) [] = ⊥
+SpellEvents says (line ∷ lines) (e ∷ es) = Spells says line e × SpellEvents says lines es
 
 -- the lines of the text spell these events
-abbrev pub IsSchedule : {C : Type 0} → List ℕ → List (Event C) → Type 0
-IsSchedule text es = SpellEvents (lines_of text) es
+abbrev pub IsSchedule : {C : Type 0} → (List ℕ → C → Type 0) → List ℕ → List (Event C) → Type 0
+IsSchedule says text es = SpellEvents says (lines_of text) es
 
 -- The first line that spells no event has this number, counted from 1: each line in front of it spells one.
-pub record IsFirstBad (C : Type 0) (text : List ℕ) (n : ℕ) : Type 0 where
+pub record IsFirstBad {C : Type 0} (says : List ℕ → C → Type 0) (text : List ℕ) (n : ℕ) : Type 0 where
   pub good : List (List ℕ)
   pub bad : List ℕ
   pub others : List (List ℕ)
   pub events : List (Event C)
   pub lines : lines_of text ≡ good ++ bad ∷ others
-  pub spelled : SpellEvents good events
-  pub nothing : SpellsNothing C bad
+  pub spelled : SpellEvents says good events
+  pub nothing : SpellsNothing says bad
   pub number : n ≡ length good + 1
 
 -- the lines in front of what is left spell these events
-pub record IsReadTo {C : Type 0} (text : List ℕ) (es : List (Event C)) (left : List ℕ) : Type 0 where
+pub record IsReadTo {C : Type 0} (says : List ℕ → C → Type 0) (text : List ℕ) (es : List (Event C)) (left : List ℕ) : Type 0 where
   pub read : List (List ℕ)
   pub lines : lines_of text ≡ read ++ lines_of left
-  pub events : SpellEvents read es
+  pub events : SpellEvents says read es

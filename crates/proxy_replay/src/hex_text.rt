@@ -1,10 +1,11 @@
 //! Bytes in a line of a schedule.
 
 ghost use Rattle.std.specs.Prelude.{◌≡◌, ◌↔◌, ◌*◌, ◌%◌, ◌<◌, length, IfOk, IsTrue};
-ghost use Rattle.proxy_replay.specs.HexText.{ReadsDigit, ReadsPair, ReadsPairs, SpellsBytes};
+ghost use Rattle.proxy_replay.specs.HexText.{ReadsDigit, ReadsPair, ReadsPairs, SpellsBytes, IsKeyOf, SpellsKey};
 
 use crate::word::behind;
 use pgw_frames::{Bytes, NoMemory};
+use session_model::TransferKey;
 use std::alloc::Global;
 
 /// The value of a hexadecimal digit in lower case.
@@ -65,4 +66,33 @@ pub(crate) fn bytes_behind(
         return Ok(None);
     }
     Ok(Some(Bytes::from_vec(bytes)))
+}
+
+/// The key whose sixteen bytes these are.
+fn key_of(bytes: &[u8]) -> Option<TransferKey>
+    ensures { IsKeyOf bytes.now result }
+{
+    let (high, rest) = bytes.split_first_chunk::<8>()?;
+    let (low, rest) = rest.split_first_chunk::<8>()?;
+    if !rest.is_empty() {
+        return None;
+    }
+    Some(TransferKey {
+        high: u64::from_be_bytes(*high),
+        low: u64::from_be_bytes(*low),
+    })
+}
+
+/// The key behind a word: 32 hexadecimal digits in lower case.
+pub(crate) fn key_behind(
+    alloc: Global,
+    word: &[u8],
+    line: &[u8],
+) -> Result<Option<TransferKey>, NoMemory>
+    ensures { IfOk result (SpellsKey word.now line.now) }
+{
+    match bytes_behind(alloc, word, line)? {
+        Some(bytes) => Ok(key_of(bytes.as_slice())),
+        None => Ok(None),
+    }
 }

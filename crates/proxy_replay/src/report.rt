@@ -15,7 +15,7 @@ use std::alloc::Global;
 const ROW: usize = 32;
 
 /// Appends a name and its count.
-fn add_count(out: &mut Bytes, name: &[u8], n: u64) -> Result<(), NoMemory>
+pub(crate) fn add_count(out: &mut Bytes, name: &[u8], n: u64) -> Result<(), NoMemory>
     ensures { IfOk result (λ _. out.new ≡ out.old ++ count_line name.now n) }
 {
     out.extend(name)?;
@@ -25,7 +25,7 @@ fn add_count(out: &mut Bytes, name: &[u8], n: u64) -> Result<(), NoMemory>
 }
 
 /// One line of bytes in hexadecimal.
-fn add_row(out: &mut Bytes, bytes: &[u8]) -> Result<(), NoMemory>
+pub(crate) fn add_row(out: &mut Bytes, bytes: &[u8]) -> Result<(), NoMemory>
     requires { length bytes.now ≤ 32 }
     ensures { IfOk result (λ _. out.new ≡ out.old ++ encode_lower bytes.now ++ 10 ∷ []) }
 {

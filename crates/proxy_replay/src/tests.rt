@@ -4,10 +4,11 @@ use pgw_frames::NoMemory;
 use proxy_outside::{MemSink, MemSource};
 use std::alloc::Global;
 use std::test::*;
+use tally_session::Nothing;
 use transfer_stages::Cut;
 
 /// A line of a schedule as its event is told here: the variant's name and its number.
-fn told(event: &Option<Event<()>>) -> (&str, u64) {
+fn told(event: &Option<Event<Nothing>>) -> (&str, u64) {
     match event {
         Some(Event::Give(bytes)) => ("give", bytes.len() as u64),
         Some(Event::Read(n)) => ("read", *n as u64),
@@ -16,7 +17,18 @@ fn told(event: &Option<Event<()>>) -> (&str, u64) {
         Some(Event::Pod) => ("pod", 0),
         Some(Event::Back(n)) => ("back", *n as u64),
         Some(Event::Pass) => ("pass", 0),
-        Some(_) => ("another", 0),
+        Some(Event::Eof) => ("eof", 0),
+        Some(Event::Other(_)) => ("other", 0),
+        Some(Event::Stop) => ("stop", 0),
+        Some(Event::Park) => ("park", 0),
+        Some(Event::Hold) => ("hold", 0),
+        Some(Event::Start(key)) => ("start", key.low),
+        Some(Event::Move) => ("move", 0),
+        Some(Event::DeliverNew(n)) => ("deliver new", *n as u64),
+        Some(Event::PodNew) => ("pod new", 0),
+        Some(Event::Cut(n)) => ("cut", *n as u64),
+        Some(Event::CutNew(n)) => ("cut new", *n as u64),
+        Some(Event::NoDial) => ("nodial", 0),
         None => ("none", 0),
     }
 }
@@ -33,9 +45,26 @@ fn lines_that_spell_events(rt: HostRuntime) -> Result<(), Fail> {
         ("pod", ("pod", 0)),
         ("back 65535", ("back", 65535)),
         ("pass", ("pass", 0)),
+        ("eof", ("eof", 0)),
+        ("other x", ("other", 0)),
+        ("other  \r", ("other", 0)),
+        ("stop", ("stop", 0)),
+        ("park", ("park", 0)),
+        ("hold", ("hold", 0)),
+        (
+            "start 000102030405060708090a0b0c0d0e0f",
+            ("start", 0x08090a0b0c0d0e0f),
+        ),
+        ("start ffffffffffffffff0000000000000001", ("start", 1)),
+        ("move", ("move", 0)),
+        ("deliver new 999", ("deliver new", 999)),
+        ("pod new", ("pod new", 0)),
+        ("cut 20", ("cut", 20)),
+        ("cut new 0", ("cut new", 0)),
+        ("nodial", ("nodial", 0)),
     ];
     for (line, want) in rows {
-        let event = event_of::<()>(rt.alloc(), line.as_bytes())?;
+        let event = event_of::<Nothing, TallyCommands>(rt.alloc(), line.as_bytes())?;
         assert_eq!(rt; told(&event), want, "at {line}");
     }
     Ok(())
@@ -73,16 +102,30 @@ fn lines_that_spell_none(rt: HostRuntime) -> Result<(), Fail> {
         "read  7",
         "deliver x",
         "back 1.0",
-        "eof",
-        "stop",
-        "move",
-        "other x",
+        "eof ",
+        "stop now",
+        "moves",
+        "other",
+        "other ",
+        "start",
+        "start 00",
+        "start 000102030405060708090a0b0c0d0e",
+        "start 000102030405060708090a0b0c0d0e0f00",
+        "start 000102030405060708090A0b0c0d0e0f",
+        "deliver new",
+        "deliver new x",
+        "deliver news 1",
+        "pod  new",
+        "cut",
+        "cut new",
+        "cut new 01",
+        "nodial 1",
     ];
     for line in rows {
-        let event = event_of::<()>(rt.alloc(), line.as_bytes())?;
+        let event = event_of::<Nothing, TallyCommands>(rt.alloc(), line.as_bytes())?;
         assert_eq!(rt; told(&event), ("none", 0), "at {line}");
     }
-    let event = event_of::<()>(rt.alloc(), &[112, 97, 115, 115, 255])?;
+    let event = event_of::<Nothing, TallyCommands>(rt.alloc(), &[112, 97, 115, 115, 255])?;
     assert_eq!(rt; told(&event), ("none", 0));
     Ok(())
 }
@@ -104,7 +147,7 @@ fn a_line_has_a_limit(rt: HostRuntime) -> Result<(), Fail> {
         (8190, ("none", 0)),
     ] {
         let line = long_line(rt.alloc(), count)?;
-        let event = event_of::<()>(rt.alloc(), line.as_slice())?;
+        let event = event_of::<Nothing, TallyCommands>(rt.alloc(), line.as_slice())?;
         assert_eq!(rt; told(&event), want);
     }
     Ok(())

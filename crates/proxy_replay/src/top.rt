@@ -1,24 +1,30 @@
 //! The top call: a schedule in, a report out.
 
-ghost use Rattle.std.specs.Prelude.{◌≡◌, ◌≢◌, ◌↔◌, ◌≤◌, [], ◌∷◌, List, length, IsTrue, IfOk, codes};
+ghost use Rattle.std.specs.Prelude.{◌≡◌, ◌≢◌, ◌↔◌, ◌≤◌, List, length, IfOk};
 ghost use Rattle.forwarder_world.specs.Headline.{Headline};
 ghost use Rattle.forwarder_world.specs.declared.event.Event.{Event as Happening};
 ghost use Rattle.proxy_outside.specs.declared.identity.ClientKey.{ClientKey as Key};
 ghost use Rattle.forwarder_world.specs.World.{World as model};
-ghost use Rattle.forwarder_core.specs.Built.{world_of};
+ghost use Rattle.pgw_messages.specs.declared.params.Pair.{Pair};
+ghost use Rattle.forwarder_core.specs.Hears.{Turns};
 ghost use Rattle.forwarder_core.specs.Stands.{WorldStands};
 ghost use Rattle.tally_session.specs.Tally.{tally_kind, tally_rules};
 ghost use Rattle.tally_session.specs.declared.store.Nothing.{Nothing};
 ghost use Rattle.proxy_replay.specs.Client.{client_params, client_key};
+ghost use Rattle.proxy_replay.specs.Generating.{world_of};
+ghost use Rattle.proxy_replay.specs.Generations.{IsNoGen};
 ghost use Rattle.proxy_replay.specs.Inputs.{most_bytes};
-ghost use Rattle.proxy_replay.specs.Replaying.{report_by, IsAnsweredBy, RunCase, Replays, Completes};
+ghost use Rattle.proxy_replay.specs.Replaying.{report_by, IsRun, IsAnsweredBy, RunCase, GenCase, ReplaysText, CompletesText, Replays, Completes, CompletesGenerated};
 
-use crate::client;
+use crate::commands::TallyCommands;
+use crate::generation::{Generation, generation_of};
 use crate::input::{Input, read_all};
 use crate::output::write_all;
 use crate::play::{Played, play};
 use crate::report::report_of;
 use crate::status::Status;
+use crate::words::is_run;
+use crate::{client, generated};
 use forwarder_core::World;
 use pgw_frames::{Bytes, NoMemory, Text};
 use proxy_outside::{Sink, Source};
@@ -33,20 +39,10 @@ pub(crate) enum Answer {
     BadLine(u64),
 }
 
-/// Whether the words ask for a run.
-fn is_run(words: &[Text]) -> bool
-    ensures { IsTrue result ↔ (words.now ≡ codes "run" ∷ []) }
-{
-    match words {
-        [word] => word.as_str() == "run",
-        _ => false,
-    }
-}
-
 /// The report of a World.
 #[tactic(auto, unfolding(crate::specs::Replaying::report_by))]
 fn report_for<S: Session>(alloc: Global, world: &World<S>) -> Result<Bytes, NoMemory>
-    ensures { IfOk result (λ b. (key : Key) (d : model S.State S.Store.State S.Store.Command) → WorldStands S.state S.Store.stands_for key world.now d → b ≡ report_by d) }
+    ensures { IfOk result (λ b. (key : Key) (p : List Pair) (d : model S.State S.Store.State S.Store.Command) → WorldStands S.state S.Store.stands_for key p world.now d → b ≡ report_by d) }
 {
     let report = report_of(alloc, world.phase(), &world.counts(), world.received())?;
     Ok(report)
@@ -58,7 +54,7 @@ fn answer_to(alloc: Global, text: &[u8]) -> Result<Answer, NoMemory>
     ensures { IfOk result (IsAnsweredBy text.now) }
 {
     let params = client::params(alloc)?;
-    let played = play::<TallySession>(alloc, text, params, client::key())?;
+    let played = play::<TallySession, TallyCommands>(alloc, text, params, client::key())?;
     match played {
         Played::BadLine(n) => Ok(Answer::BadLine(n)),
         Played::Whole(world) => {
@@ -85,21 +81,27 @@ fn run<K: Sink>(alloc: Global, text: &[u8], report: &mut K) -> Status
     }
 }
 
-/// Reads a schedule to its end, and writes the report of its World. The one word is `run`.
-pub fn replay<S: Source, K: Sink>(
-    alloc: Global,
-    words: &[Text],
-    schedule: &mut S,
-    report: &mut K,
-) -> Status
-    ensures causes { Replays words.now (S.origin schedule.old) (S.origin schedule.new) (K.target report.old) (K.target report.new) result }
-    ensures usage { (result ≡ Status.Usage) ↔ (words.now ≢ codes "run" ∷ []) }
-    ensures complete { Completes words.now (S.origin schedule.old) (S.origin schedule.new) (K.target report.old) (K.target report.new) result }
-    ensures headline { (es : List (Happening Nothing)) → Headline tally_kind tally_rules client_key client_params (world_of tally_kind tally_rules client_key client_params es) }
+/// Plays a schedule that is made from a number, and writes its summary.
+fn generate<K: Sink>(alloc: Global, g: &Generation, report: &mut K) -> Status
+    ensures { GenCase g.now.number g.now.messages (K.target report.old) (K.target report.new) result }
 {
-    if !is_run(words) {
-        return Status::Usage;
+    match generated::summary(alloc, g) {
+        Err(_) => Status::NoMemory,
+        Ok(text) => {
+            if write_all(report, text.as_slice()) {
+                return Status::Done;
+            }
+            Status::WriteFault
+        }
     }
+}
+
+/// Reads a schedule to its end, and writes the report of its World.
+fn replay_text<S: Source, K: Sink>(alloc: Global, schedule: &mut S, report: &mut K) -> Status
+    ensures causes { ReplaysText (S.origin schedule.old) (S.origin schedule.new) (K.target report.old) (K.target report.new) result }
+    ensures complete { CompletesText (S.origin schedule.old) (S.origin schedule.new) (K.target report.old) (K.target report.new) result }
+    ensures usage { result ≢ Status.Usage }
+{
     match read_all(alloc, schedule) {
         Input::All(text) => run(alloc, text.as_slice(), report),
         Input::ReadFault => Status::ReadFault,
@@ -107,6 +109,31 @@ pub fn replay<S: Source, K: Sink>(
         Input::Late(n) => Status::Late(n),
         Input::NoMemory => Status::NoMemory,
     }
+}
+
+/// Reads a schedule to its end, and writes the report of its World: the words are `run`
+/// or `run tally`. With `gen`, a number below 2^64 and a count from 1 to 100,000 it reads nothing, and
+/// writes the summary of the World after the schedule of that number with so many messages.
+pub fn replay<S: Source, K: Sink>(
+    alloc: Global,
+    words: &[Text],
+    schedule: &mut S,
+    report: &mut K,
+) -> Status
+    ensures causes { Replays words.now (S.origin schedule.old) (S.origin schedule.new) (K.target report.old) (K.target report.new) result }
+    ensures usage { (result ≡ Status.Usage) ↔ ((¬ IsRun words.now) × IsNoGen words.now) }
+    ensures complete { Completes words.now (S.origin schedule.old) (S.origin schedule.new) (K.target report.old) (K.target report.new) result }
+    ensures complete_generated { CompletesGenerated words.now (K.target report.old) (K.target report.new) result }
+    ensures headline { (es : List (Happening Nothing)) → Headline tally_kind tally_rules client_key client_params (world_of es) }
+    ensures turns { (es : List (Happening Nothing)) (e : Happening Nothing) → Turns tally_kind tally_rules client_key client_params (world_of es) e }
+{
+    if let Some(g) = generation_of(words) {
+        return generate(alloc, &g, report);
+    }
+    if is_run(words) {
+        return replay_text(alloc, schedule, report);
+    }
+    Status::Usage
 }
 
 #[cfg(test)]

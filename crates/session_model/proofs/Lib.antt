@@ -1,4 +1,4 @@
+pub mod KeyBytes
 pub mod Reaching
-pub mod Digits
 pub mod Rows
 pub mod Sizes

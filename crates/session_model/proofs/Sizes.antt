@@ -6,16 +6,13 @@ use Rattle.base64.specs.GeneralPurpose.{encode_of, engine_symbols}
 use Rattle.base64.specs.Engines.{standard}
 use Rattle.base64.specs.Rfc4648.{encode_symbols, padding_len, unpadded_len}
 use Rattle.base64.proofs.RoundTrip.{length-encode_symbols}
-use Rattle.session_model.specs.Texts.{hex_digit, hex_digits, key_digits}
+use Rattle.hex.specs.Hex.{lower_digits}
+use Rattle.hex.proofs.HexLemmas.{length-encode_with}
+use Rattle.session_model.specs.Texts.{key_bytes, key_digits}
 use Rattle.session_model.specs.declared.transfer.TransferKey.{TransferKey}
 
-pub length-hex_digits : (k n : ℕ) → length (hex_digits k n) ≡ k
-unfolding hex_digits
-length-hex_digits zero n = refl
-length-hex_digits (suc k) n = length_push (hex_digits k (n / 16)) (hex_digit (n % 16)) ∙ omega (arith, length-hex_digits k (n / 16))
-
 pub length-key_digits : (k : TransferKey) → length (key_digits k) ≡ 32
-length-key_digits k = omega (arith, length-append (hex_digits 16 k.high) (hex_digits 16 k.low), length-hex_digits 16 k.high, length-hex_digits 16 k.low)
+length-key_digits k = length-encode_with lower_digits (key_bytes k)
 
 pub length-encode-le : (b : List ℕ) → length (encode_of standard b) ≤ 2 * length b + 4
 length-encode-le b =

@@ -26,6 +26,9 @@ pub(crate) const TEXT: ColumnType = ColumnType {
     size: 0xffff,
 };
 
+/// How many bytes a row takes at first: most have few and short values.
+const SMALL_ROW: usize = 64;
+
 /// Adds what RowDescription says of a column that is no table's.
 pub(crate) fn add_column(body: &mut Vec<u8>, name: &str, of: ColumnType) -> Result<(), NoMemory>
     ensures { OnOk result (body.new.items ≡ body.old.items ++ column name.now of.number of.size) }
@@ -54,7 +57,8 @@ pub(crate) fn row(alloc: Global, values: &[&[u8]]) -> Result<Frame, NoMemory>
     requires sizes { AllByRecursion (λ v. length v.now < 2 ^ 31) values.now }
     ensures { IfOk result (λ f. f ≡ text.row (map (λ v. v.now) values.now)) }
 {
-    let mut body = Vec::from_slice(alloc, &(values.len() as u16).to_be_bytes())?;
+    let mut body = Vec::with_capacity(alloc, SMALL_ROW)?;
+    body.extend_from_slice(&(values.len() as u16).to_be_bytes())?;
     for v in values {
         add_value(&mut body, v)?;
     }

@@ -60,4 +60,13 @@ impl<M: Machine> SharedStore<M> {
         let answer = answer_of(&mut self.machine, command)?;
         Ok(answer)
     }
+
+    /// Takes a step for another client. After an `Err` it stands for the same states.
+    pub fn step(&mut self, command: &M::Command) -> Result<(), NoMemory>
+        ensures store { OnOk result ((t : M.State) → M.stands_for self.old t → M.stands_for self.new (M.rules.next t command.now)) }
+        ensures err { OnErr result ((t : M.State) → M.stands_for self.old t → M.stands_for self.new t) }
+    {
+        let _reply = self.machine.step(command)?;
+        Ok(())
+    }
 }

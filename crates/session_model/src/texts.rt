@@ -10,19 +10,28 @@ use base64::engine::general_purpose::STANDARD;
 use pgw_frames::{Bytes, Frame, Frames, MOST_BODY, NoMemory, Text};
 use std::alloc::Global;
 
+/// How many bytes a transfer Query's text takes, and a zero byte behind it.
+const TRANSFER_ROOM: usize = 60;
+
+/// How many bytes a restore Query's text takes at most, but for its blob, and a zero byte behind it.
+const RESTORE_ROOM: usize = 66;
+
+/// How many bytes the columns of the reply to a transfer Query take.
+const COLUMNS_ROOM: usize = 143;
+
 /// A key's 32 digits, as a transfer Query and its reply spell them.
 pub fn key_text(alloc: Global, k: &TransferKey) -> Result<String, NoMemory>
     ensures { IfOk result (λ t. string_bytes t ≡ key_digits k.now) }
 {
-    let TransferKey { high, low } = *k;
-    Ok(format!(in alloc; "{high:016x}{low:016x}")?)
+    Ok(hex::encode(alloc, &k.to_bytes())?)
 }
 
 /// The text of the Query that asks for a session's state.
 pub fn transfer_text(alloc: Global, k: &TransferKey) -> Result<Text, NoMemory>
     ensures { IfOk result (λ t. t ≡ text.transfer_text k.now) }
 {
-    let mut words = String::from_str(alloc, "SHOW TRANSFER STATE WITH '")?;
+    let mut words = String::with_capacity(alloc, TRANSFER_ROOM)?;
+    words.push_str("SHOW TRANSFER STATE WITH '")?;
     words.push_str(key_text(alloc, k)?.as_str())?;
     words.push_str("'")?;
     Ok(Text::from_string(words))
@@ -32,7 +41,8 @@ pub fn transfer_text(alloc: Global, k: &TransferKey) -> Result<Text, NoMemory>
 pub fn restore_text(alloc: Global, blob: &[u8]) -> Result<Text, NoMemory>
     ensures { IfOk result (λ t. t ≡ text.restore_text blob.now) }
 {
-    let mut words = String::from_str(alloc, "SELECT crdb_internal.deserialize_session(decode('")?;
+    let mut words = String::with_capacity(alloc, RESTORE_ROOM + blob.len() / 3 * 4)?;
+    words.push_str("SELECT crdb_internal.deserialize_session(decode('")?;
     STANDARD.encode_string(blob, &mut words)?;
     words.push_str("','base64'))")?;
     Ok(Text::from_string(words))
@@ -43,7 +53,8 @@ pub fn restore_text(alloc: Global, blob: &[u8]) -> Result<Text, NoMemory>
 fn transfer_columns(alloc: Global) -> Result<Frame, NoMemory>
     ensures { IfOk result (λ f. f ≡ text.transfer_columns) }
 {
-    let mut body = Vec::from_slice(alloc, b"\0\x04")?;
+    let mut body = Vec::with_capacity(alloc, COLUMNS_ROOM)?;
+    body.extend_from_slice(b"\0\x04")?;
     add_column(&mut body, "error", TEXT)?;
     add_column(&mut body, "session_state_base64", TEXT)?;
     add_column(&mut body, "session_revival_token_base64", TEXT)?;

@@ -6,17 +6,14 @@ use Rattle.base64.specs.GeneralPurpose.{encode_of, engine_symbols}
 use Rattle.base64.specs.Engines.{standard}
 use Rattle.base64.specs.Rfc4648.{encode_symbols, padding_len, unpadded_len}
 use Rattle.base64.proofs.RoundTrip.{length-encode_symbols}
-use Rattle.session_model.specs.Texts.{hex_digits, transfer_text, restore_text}
+use Rattle.hex.specs.Hex.{lower_digits}
+use Rattle.hex.proofs.HexLemmas.{length-encode_with}
+use Rattle.session_model.specs.Texts.{key_bytes, key_digits, transfer_text, restore_text}
 use Rattle.session_model.specs.declared.transfer.TransferKey.{TransferKey}
-
-length-hex_digits : (k n : ℕ) → length (hex_digits k n) ≡ k
-unfolding hex_digits
-length-hex_digits zero n = refl
-length-hex_digits (suc k) n = length_push (hex_digits k (n / 16)) _ ∙ omega (arith, length-hex_digits k (n / 16))
 
 pub transfer_short : (t : TransferKey) → length (transfer_text t) < 16777216
 transfer_short t =
-    omega (arith, length-append (hex_digits 16 t.high ++ hex_digits 16 t.low) (codes "'"), length-append (hex_digits 16 t.high) (hex_digits 16 t.low), length-hex_digits 16 t.high, length-hex_digits 16 t.low)
+    omega (arith, length-append (key_digits t) (codes "'"), length-encode_with lower_digits (key_bytes t))
 
 encoded_short : (b : List ℕ) → length b ≤ 1048576 → length (encode_of standard b) ≤ 2000000
 encoded_short b le =

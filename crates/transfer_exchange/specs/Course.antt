@@ -167,3 +167,21 @@ IsWithin p (at.NewRow key) = Unit {0}
 IsWithin p (at.NewTag key) = Unit {0}
 IsWithin p (at.NewReady key) = Unit {0}
 IsWithin p (at.Ended o) = Unit {0}
+
+-- what is to be sent is the startup packet
+abbrev pub is_packet : Stage → Bool
+is_packet (at.Packet state token) = true
+is_packet at.AskOld = false
+is_packet at.OldColumns = false
+is_packet at.OldRow = false
+is_packet (at.OldTag s) = false
+is_packet (at.OldReady s) = false
+is_packet (at.Dial state token) = false
+is_packet (at.NewAuth state) = false
+is_packet (at.NewStatus state n key) = false
+is_packet (at.Restore state key) = false
+is_packet (at.NewColumns key) = false
+is_packet (at.NewRow key) = false
+is_packet (at.NewTag key) = false
+is_packet (at.NewReady key) = false
+is_packet (at.Ended o) = false

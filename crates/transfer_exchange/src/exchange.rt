@@ -6,10 +6,10 @@ ghost use Rattle.pgw_messages.specs.Params.{value_of};
 ghost use Rattle.transfer_stages.specs.Exchange.{wants, takes, ended};
 ghost use Rattle.transfer_stages.specs.Exchange as expected;
 ghost use Rattle.transfer_stages.specs.Rows.{row_of};
-ghost use Rattle.transfer_exchange.specs.Course.{key_of, params_of, stage_of, goes, IsSending, IsAwaiting, IsDialing, IsLinked, text_at, sent_at, dialed_at, cut_at};
+ghost use Rattle.transfer_exchange.specs.Course.{key_of, params_of, stage_of, goes, IsSending, IsAwaiting, IsDialing, IsLinked, text_at, sent_at, dialed_at, cut_at, is_packet};
 
 use crate::said::said;
-use crate::stages::{behind_cut, behind_dial, behind_frame, behind_text, want_at};
+use crate::stages::{behind_cut, behind_dial, behind_frame, behind_text, is_opening_at, want_at};
 use crate::texts::{packet, query};
 use pgw_frames::{Bytes, Frame, NoMemory};
 use pgw_messages::Params;
@@ -127,6 +127,13 @@ impl Exchange {
             | Stage::NewReady(_)
             | Stage::Ended(_) => Ok(Bytes::new(self.alloc)),
         }
+    }
+
+    /// Whether what is to be sent is the startup packet.
+    pub fn is_opening(&self) -> bool
+        ensures { result ≡ is_packet (stage_of self.now) }
+    {
+        is_opening_at(&self.stage)
     }
 
     /// The bytes of `text` were sent whole.

@@ -5,7 +5,7 @@ ghost use Rattle.pgw_messages.specs.declared.params.Pair.{Pair as Param};
 ghost use Rattle.session_model.specs.declared.transfer.TransferKey.{TransferKey as Key};
 ghost use Rattle.transfer_stages.specs.Exchange as expected;
 ghost use Rattle.transfer_stages.specs.Rows.{row_of};
-ghost use Rattle.transfer_exchange.specs.Course.{sent_at, dialed_at, cut_at};
+ghost use Rattle.transfer_exchange.specs.Course.{sent_at, dialed_at, cut_at, is_packet};
 
 use crate::{new_pod, old_pod};
 use pgw_frames::Frame;
@@ -27,6 +27,29 @@ pub(crate) fn want_at(stage: &Stage) -> Want
         | Stage::NewTag(_)
         | Stage::NewReady(_) => Want::AwaitNew,
         Stage::Ended(_) => Want::Ended,
+    }
+}
+
+/// Whether a stage sends the startup packet.
+pub(crate) fn is_opening_at(stage: &Stage) -> bool
+    ensures { result ≡ is_packet stage.now }
+{
+    match stage {
+        Stage::Packet(_, _) => true,
+        Stage::AskOld
+        | Stage::OldColumns
+        | Stage::OldRow
+        | Stage::OldTag(_)
+        | Stage::OldReady(_)
+        | Stage::Dial(_, _)
+        | Stage::NewAuth(_)
+        | Stage::NewStatus(_, _, _)
+        | Stage::Restore(_, _)
+        | Stage::NewColumns(_)
+        | Stage::NewRow(_)
+        | Stage::NewTag(_)
+        | Stage::NewReady(_)
+        | Stage::Ended(_) => false,
     }
 }
 

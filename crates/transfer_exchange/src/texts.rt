@@ -20,13 +20,17 @@ const VERSION: u32 = 196_608;
 /// The most bytes of a startup packet behind its length, its version and the zero byte at its end.
 const MOST_PAIRS: usize = 11_899_991;
 
+/// How many bytes a packet takes at first, but for its token: most have few and short parameters.
+const SMALL_PACKET: usize = 128;
+
 /// The bytes of a Query with this text.
 pub(crate) fn query(alloc: Global, t: Text) -> Result<Bytes, NoMemory>
     requires { length t < 16777216 }
     ensures { IfOk result (λ b. b ≡ frame_bytes (text.query t)) }
 {
-    let mut body = Bytes::of(alloc, t.as_str().as_bytes())?;
-    body.extend(b"\0")?;
+    let mut words = t.into_string();
+    words.push_str("\0")?;
+    let body = Bytes::from_vec(words.into_bytes());
     let mut out = Bytes::new(alloc);
     write_frame(&Frame { tag: b'Q', body }, &mut out)?;
     Ok(out)
@@ -47,7 +51,8 @@ fn add_pair(body: &mut Vec<u8>, name: &[u8], value: &[u8]) -> Result<(), NoMemor
 fn packet_body(alloc: Global, params: &[Pair], token: &[u8]) -> Result<Vec<u8>, NoMemory>
     ensures { IfOk result (λ b. b.items ≡ startup_body (with_token params.now token.now)) }
 {
-    let mut body = Vec::from_slice(alloc, &VERSION.to_be_bytes())?;
+    let mut body = Vec::with_capacity(alloc, SMALL_PACKET + token.len())?;
+    body.extend_from_slice(&VERSION.to_be_bytes())?;
     for q in params {
         add_pair(
             &mut body,

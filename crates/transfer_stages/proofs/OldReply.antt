@@ -7,7 +7,7 @@ use Rattle.std.proofs.lemmas.Str.{is_utf8-from_IsUtf8, IsUtf8-from_ascii}
 use Rattle.std.proofs.lemmas.Slice.Eq.{bytes_eq-Decides}
 use Rattle.pgw_frames.specs.declared.frame.Frame.{Frame}
 use Rattle.pgw_messages.specs.declared.params.Pair.{Pair}
-use Rattle.session_model.specs.Texts.{ready, row, transfer_tag, transfer_columns, key_digits, hex_digits}
+use Rattle.session_model.specs.Texts.{ready, row, transfer_tag, transfer_columns, key_digits}
 use Rattle.session_model.specs.declared.transfer.TransferKey.{TransferKey}
 use Rattle.transfer_stages.specs.Accepts.{AcceptsOld, FitsReady}
 use Rattle.transfer_stages.specs.Taking.{Leads, end_of, OldReplyLeads, OldReplyStops, OldReplyGoesOn}
@@ -18,7 +18,7 @@ use Rattle.transfer_stages.specs.declared.stage.Said.TheVariants.{Given, Refuses
 use Rattle.transfer_stages.specs.declared.stage.Stage.{Stage}
 use Rattle.transfer_stages.specs.declared.stage.Stage.TheVariants as at
 use Rattle.transfer_stages.specs.declared.stage.Want.TheVariants.{AwaitOld, Dial, Ended}
-use Rattle.transfer_stages.proofs.Saying.{row_read, length-hex_digits}
+use Rattle.transfer_stages.proofs.Saying.{row_read, length-key_digits}
 use Rattle.transfer_stages.proofs.Leading.{stuck, step, step_back, behind, joined, refused_or}
 
 -- ---- ends
@@ -212,7 +212,7 @@ refusing_read : (t : TransferKey) → row_of 4 (refusing t) ≡ Some (Some (code
 unfolding refusing
 refusing_read t =
     row_read (codes "x") [] [] (key_digits t)
-    (omega (arith, length-append (hex_digits 16 t.high) (hex_digits 16 t.low), length-hex_digits 16 t.high, length-hex_digits 16 t.low, length-append (key_digits t) []))
+    (omega (arith, length-key_digits t, length-append (key_digits t) []))
 
 an_x : is_utf8 (codes "x") ≡ true
 an_x = is_utf8-from_IsUtf8 (codes "x") (IsUtf8-from_ascii (codes "x") low)

@@ -14,7 +14,9 @@ use Rattle.base64.proofs.RoundTrip.{length-encode_symbols}
 use Rattle.base64.specs.Rfc4648.{encode_symbols, padding_len, unpadded_len}
 use Rattle.base64.proofs.EngineFacts.{decode_of-encode_of}
 use Rattle.pgw_frames.specs.Frames.{IsGood, IsBytes}
-use Rattle.session_model.specs.Texts.{key_digits, hex_digits, transfer_query, restore_query, value, row, transfer_row, digits_row}
+use Rattle.hex.specs.Hex.{lower_digits}
+use Rattle.hex.proofs.HexLemmas.{length-encode_with}
+use Rattle.session_model.specs.Texts.{key_bytes, key_digits, transfer_query, restore_query, value, row, transfer_row, digits_row}
 use Rattle.pgw_messages.specs.declared.params.Pair.{Pair}
 use Rattle.session_model.specs.declared.transfer.Dump.{Dump}
 use Rattle.session_model.specs.declared.transfer.Dump.TheVariants.{Blob, Not}
@@ -86,15 +88,13 @@ says_dump t p (Blob b) token state given_token bytes some good e =
     (ap Blob r.0, rw (← r.0) r.1)
 says_dump t p (Not r) token state given_token bytes some good e = absurd (not_says t p r token state given_token (some r refl) good e)
 
-pub length-hex_digits : (k n : ℕ) → length (hex_digits k n) ≡ k
-unfolding hex_digits
-length-hex_digits zero n = refl
-length-hex_digits (suc k) n = length_push (hex_digits k (n / 16)) _ ∙ omega (arith, length-hex_digits k (n / 16))
+pub length-key_digits : (t : TransferKey) → length (key_digits t) ≡ 32
+length-key_digits t = length-encode_with lower_digits (key_bytes t)
 
 pub transfer_good : (t : TransferKey) → IsGood (transfer_query t)
 unfolding transfer_query
 transfer_good t =
-    omega (arith, length-append (hex_digits 16 t.high ++ hex_digits 16 t.low) (codes "'"), length-append (hex_digits 16 t.high) (hex_digits 16 t.low), length-append ((hex_digits 16 t.high ++ hex_digits 16 t.low) ++ codes "'") (0 ∷ []), length-hex_digits 16 t.high, length-hex_digits 16 t.low)
+    omega (arith, length-append (key_digits t) (codes "'"), length-append (key_digits t ++ codes "'") (0 ∷ []), length-key_digits t)
 
 encoded_short : (b : List ℕ) → length b ≤ 1048576 → length (encode_of standard b) ≤ 2000000
 encoded_short b le =

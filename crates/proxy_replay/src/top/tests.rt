@@ -9,14 +9,22 @@ const NOTHING: &str =
 const ONE_QUERY: &str =
     "sqlproxy replay 1\nphase running\nmoves 0\nfailed 0\ntaken 7\nforwarded 1\npassed 5\nreceived 47\n5200000008000000004b0000000c00000001010203045a000000054943000000\n0c54414c4c592031005a0000000549\nend\n";
 
+/// The words of a command line, cut at blanks.
+fn words_of(alloc: Global, line: &str) -> Result<Vec<Text>, NoMemory> {
+    let mut words = Vec::new(alloc);
+    for word in line.split(' ') {
+        words.push(Text::of(alloc, word)?)?;
+    }
+    Ok(words)
+}
+
 /// What a replay answers and writes.
 fn replayed(
     alloc: Global,
     word: &str,
     schedule: &mut MemSource,
 ) -> Result<(Status, String), NoMemory> {
-    let mut words = Vec::new(alloc);
-    words.push(Text::of(alloc, word)?)?;
+    let words = words_of(alloc, word)?;
     let mut sink = MemSink::make(alloc, 64, &[])?;
     let status = replay(alloc, words.as_slice(), schedule, &mut sink);
     let mut report = String::new(alloc);
@@ -56,6 +64,151 @@ fn schedules_and_their_reports(rt: HostRuntime) -> Result<(), Fail> {
     Ok(())
 }
 
+/// One query, answered and passed.
+const QUERY: &str =
+    "give 51000000063100\nread 7\nforward\ndeliver 7\npod\nback 64\npass\npass\npass\npass\npass\n";
+
+/// A session that is asked to move.
+const START: &str = "stop\npark\nhold\nstart 000102030405060708090a0b0c0d0e0f\n";
+
+/// A whole transfer behind its start: the old pod is asked and answers, the new one is dialed, greets, and
+/// is restored.
+const MOVE: &str =
+    "move\ndeliver 999\npod\nmove\nmove\nmove\nmove\nmove\nmove\ndeliver new 999\npod new\nmove\nmove\nmove\nmove\ndeliver new 999\npod new\nmove\nmove\nmove\nmove\n";
+
+const SECOND_QUERY: &str =
+    "give 51000000063200\nread 9\nforward\ndeliver 99\npod\nback 99\npass\npass\n";
+
+/// A transfer behind its start, up to the dial.
+const NO_DIAL: &str = "move\ndeliver 999\npod\nmove\nmove\nmove\nmove\nmove\n";
+
+/// The report of a schedule in parts, at so many bytes a read.
+fn report_of_parts(alloc: Global, parts: &[&str]) -> Result<(Status, String), NoMemory> {
+    let mut schedule = String::new(alloc);
+    for part in parts {
+        schedule.push_str(part)?;
+    }
+    let mut source = MemSource::make(alloc, schedule.as_bytes(), 4096, &[], &[])?;
+    replayed(alloc, "run tally", &mut source)
+}
+
+#[test]
+fn sessions_that_move(rt: HostRuntime) -> Result<(), Fail> {
+    let rows: [(&str, &[&str], &str); 4] = [
+        // A Query in front of a copy isn't answered yet: two asked, one ready.
+        (
+            "a query before a copy",
+            &[
+                "give 51000000063100510000001643",
+                "4f505920742046524f4d20535444494e00\nread 30\nforward\nforward\ndeliver 99\npod\nback 99\npass\npass\npass\npass\npass\n",
+                START,
+            ],
+            "sqlproxy replay 1\nphase running\nmoves 0\nfailed 0\ntaken 30\nforwarded 2\npassed 5\nreceived 47\n5200000008000000004b0000000c00000001010203045a000000054943000000\n0c54414c4c592031005a0000000549\nend\n",
+        ),
+        // A whole copy, a move, and a query at the new pod.
+        (
+            "a copy, and a move",
+            &[
+                "give 5100000016434f505920742046524f4d20535444494e006400000006610a6400000006620a6300000004\nread 42\nforward\nforward\nforward\nforward\n",
+                "deliver 99\npod\npod\npod\npod\nback 99\npass\npass\npass\npass\npass\npass\n",
+                START,
+                MOVE,
+                "give 51000000063100\nread 7\nforward\ndeliver 99\npod\nback 99\npass\npass\n",
+            ],
+            "sqlproxy replay 1\nphase running\nmoves 1\nfailed 0\ntaken 49\nforwarded 5\npassed 8\nreceived 73\n5200000008000000004b0000000c00000001010203045a000000054947000000\n07000000430000000b434f50592032005a0000000549430000000c54414c4c59\n2031005a0000000549\nend\n",
+        ),
+        // A Parse, a Bind and an Execute behind a Sync: the last message that is no copy's is an Execute.
+        (
+            "an execute",
+            &[
+                "give 5300000004\nread 5\nforward\ndeliver 5\npod\nback 99\npass\npass\npass\npass\n",
+                "give 50000000044200000004450000000464000000046300000004\nread 25\nforward\nforward\nforward\nforward\nforward\n",
+                START,
+            ],
+            "sqlproxy replay 1\nphase running\nmoves 0\nfailed 0\ntaken 30\nforwarded 6\npassed 4\nreceived 34\n5200000008000000004b0000000c00000001010203045a00000005495a000000\n0549\nend\n",
+        ),
+        // A query, a move, and a query at the new pod, which goes on counting.
+        (
+            "a move",
+            &[QUERY, "other x\n", START, MOVE, SECOND_QUERY],
+            "sqlproxy replay 1\nphase running\nmoves 1\nfailed 0\ntaken 14\nforwarded 2\npassed 7\nreceived 66\n5200000008000000004b0000000c00000001010203045a000000054943000000\n0c54414c4c592031005a0000000549430000000c54414c4c592032005a000000\n0549\nend\n",
+        ),
+    ];
+    for (name, parts, want) in rows {
+        let (status, report) = report_of_parts(rt.alloc(), parts)?;
+        assert_eq!(rt; status, Status::Done, "at {name}");
+        assert!(rt; report.as_str() == want, "at {name}");
+    }
+    Ok(())
+}
+
+#[test]
+fn sessions_that_stay_or_end(rt: HostRuntime) -> Result<(), Fail> {
+    let rows: [(&str, &[&str], &str); 9] = [
+        // The new link is cut behind the restore Query: the old pod serves on.
+        (
+            "new link cut",
+            &[
+                QUERY,
+                START,
+                "move\ndeliver 999\npod\nmove\nmove\nmove\nmove\nmove\nmove\ndeliver new 999\npod new\nmove\nmove\nmove\nmove\ncut new 0\nmove\n",
+                SECOND_QUERY,
+            ],
+            "sqlproxy replay 1\nphase running\nmoves 0\nfailed 1\ntaken 14\nforwarded 2\npassed 7\nreceived 66\n5200000008000000004b0000000c00000001010203045a000000054943000000\n0c54414c4c592031005a0000000549430000000c54414c4c592032005a000000\n0549\nend\n",
+        ),
+        // The old link is cut inside the reply that it owes.
+        (
+            "old link cut",
+            &[QUERY, START, "move\ndeliver 999\npod\ncut 20\nmove\n"],
+            "sqlproxy replay 1\nphase closed exchangecut ended\nmoves 0\nfailed 0\ntaken 7\nforwarded 1\npassed 5\nreceived 47\n5200000008000000004b0000000c00000001010203045a000000054943000000\n0c54414c4c592031005a0000000549\nend\n",
+        ),
+        // A dial fails, and the next transfer moves the session.
+        (
+            "no dial",
+            &["nodial\n", QUERY, START, NO_DIAL],
+            "sqlproxy replay 1\nphase running\nmoves 0\nfailed 1\ntaken 7\nforwarded 1\npassed 5\nreceived 47\n5200000008000000004b0000000c00000001010203045a000000054943000000\n0c54414c4c592031005a0000000549\nend\n",
+        ),
+        (
+            "no dial, and a move",
+            &[QUERY, "nodial\n", START, NO_DIAL, START, MOVE, SECOND_QUERY],
+            "sqlproxy replay 1\nphase running\nmoves 1\nfailed 1\ntaken 14\nforwarded 2\npassed 7\nreceived 66\n5200000008000000004b0000000c00000001010203045a000000054943000000\n0c54414c4c592031005a0000000549430000000c54414c4c592032005a000000\n0549\nend\n",
+        ),
+        // The client ends between messages, or inside one.
+        (
+            "client ends",
+            &[QUERY, "eof\nforward\n"],
+            "sqlproxy replay 1\nphase closed bye\nmoves 0\nfailed 0\ntaken 7\nforwarded 1\npassed 5\nreceived 47\n5200000008000000004b0000000c00000001010203045a000000054943000000\n0c54414c4c592031005a0000000549\nend\n",
+        ),
+        (
+            "client cut",
+            &[QUERY, "give 5100\nread 2\neof\nforward\n"],
+            "sqlproxy replay 1\nphase closed clientcut\nmoves 0\nfailed 0\ntaken 9\nforwarded 1\npassed 5\nreceived 47\n5200000008000000004b0000000c00000001010203045a000000054943000000\n0c54414c4c592031005a0000000549\nend\n",
+        ),
+        // The pod ends, and what it had sent is passed first.
+        (
+            "pod ends",
+            &[QUERY, "cut 0\npass\n"],
+            "sqlproxy replay 1\nphase closed podended\nmoves 0\nfailed 0\ntaken 7\nforwarded 1\npassed 5\nreceived 47\n5200000008000000004b0000000c00000001010203045a000000054943000000\n0c54414c4c592031005a0000000549\nend\n",
+        ),
+        (
+            "pod ends with bytes unread",
+            &["cut 9\npass\nback 9\npass\npass\n"],
+            "sqlproxy replay 1\nphase closed podended\nmoves 0\nfailed 0\ntaken 0\nforwarded 0\npassed 1\nreceived 9\n520000000800000000\nend\n",
+        ),
+        (
+            "pod write",
+            &[QUERY, "cut 0\ngive 51000000063200\nread 7\nforward\n"],
+            "sqlproxy replay 1\nphase closed podwrite\nmoves 0\nfailed 0\ntaken 14\nforwarded 1\npassed 5\nreceived 47\n5200000008000000004b0000000c00000001010203045a000000054943000000\n0c54414c4c592031005a0000000549\nend\n",
+        ),
+    ];
+    for (name, parts, want) in rows {
+        let (status, report) = report_of_parts(rt.alloc(), parts)?;
+        assert_eq!(rt; status, Status::Done, "at {name}");
+        assert!(rt; report.as_str() == want, "at {name}");
+    }
+    Ok(())
+}
+
 #[test]
 fn byte_by_byte(rt: HostRuntime) -> Result<(), Fail> {
     let mut schedule = String::from_str(rt.alloc(), "give 51000000063100\n")?;
@@ -75,6 +228,22 @@ fn byte_by_byte(rt: HostRuntime) -> Result<(), Fail> {
     Ok(())
 }
 
+/// The schedule of number 1 with a thousand messages, and the greatest number with none but one.
+#[test]
+fn schedules_from_a_number(rt: HostRuntime) -> Result<(), Fail> {
+    let mut nothing = MemSource::make(rt.alloc(), &[], 64, &[], &[])?;
+    let (status, summary) = replayed(rt.alloc(), "gen 1 1000", &mut nothing)?;
+    assert_eq!(rt; status, Status::Done);
+    let counts =
+        "sqlproxy gen 1\nnumber 1\nmessages 1000\nevents 10573\nphase running\nmoves 75\nfailed 68\nforwarded 1107\npassed 1725\nreceived 16787\nsha256 ";
+    assert!(rt; summary.as_str().starts_with(counts));
+    let (_, again) = replayed(rt.alloc(), "gen 1 1000", &mut nothing)?;
+    assert!(rt; again == summary);
+    let (status, _) = replayed(rt.alloc(), "gen 18446744073709551615 1", &mut nothing)?;
+    assert_eq!(rt; status, Status::Done);
+    Ok(())
+}
+
 #[test]
 fn what_is_no_schedule(rt: HostRuntime) -> Result<(), Fail> {
     let rows = [
@@ -91,8 +260,21 @@ fn what_is_no_schedule(rt: HostRuntime) -> Result<(), Fail> {
         ("run", "pass\r\n", Status::BadLine(1)),
         ("run", "give 5A\n", Status::BadLine(1)),
         ("run", "give 510\n", Status::BadLine(1)),
-        ("run", "stop\n", Status::BadLine(1)),
+        ("run", "stopp\n", Status::BadLine(1)),
+        ("run", "start 00\n", Status::BadLine(1)),
+        ("run", "other \n", Status::BadLine(1)),
         ("walk", "pass\n", Status::Usage),
+        ("gen", "pass\n", Status::Usage),
+        ("gen 1", "pass\n", Status::Usage),
+        ("gen 1 0", "pass\n", Status::Usage),
+        ("gen 1 100001", "pass\n", Status::Usage),
+        ("gen 01 1", "pass\n", Status::Usage),
+        ("gen +1 1", "pass\n", Status::Usage),
+        ("gen 18446744073709551616 1", "pass\n", Status::Usage),
+        ("gen 1 1 1", "pass\n", Status::Usage),
+        ("run mini", "pass\n", Status::Usage),
+        ("run tally tally", "pass\n", Status::Usage),
+        ("tally run", "pass\n", Status::Usage),
         ("", "pass\n", Status::Usage),
         ("--help", "pass\n", Status::Usage),
     ];

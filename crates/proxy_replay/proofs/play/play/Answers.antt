@@ -1,20 +1,19 @@
 use Rattle.std.proofs.Common.{◌+◌, ◌++◌, ◌∷◌, [], ℕ, List, refl, sym, ap, subst, ◌∙◌, arith}
 use Rattle.std.proofs.lemmas.List.{length_push}
-use Rattle.forwarder_world.specs.World.{start}
-use Rattle.forwarder_core.specs.Built.{world_of}
+use Rattle.forwarder_world.specs.World.{start, run}
 use Rattle.forwarder_core.specs.Stands.{WorldStands}
-use Rattle.forwarder_core.proofs.Schedules.{runs-append}
+use Rattle.forwarder_core.proofs.Schedules.{run-append}
 use Rattle.proxy_replay.specs.Schedule.{IsReadTo, IsFirstBad}
 use Rattle.proxy_replay.proofs.ReadTo.{read_none, read_more, read_whole, read_bad, few_events}
 use Rattle.proxy_replay.proofs.play.play.Goals as goal
 
 pub loop-line-init : goal.loop-line-init
-loop-line-init g c = ([], subst (λ (left : List ℕ). IsReadTo c.args.text.now [] left) (sym c.of-lines.ensures) (read_none c.args.text.now), refl, c.in_ok-world.ensures)
+loop-line-init g c = ([], subst (λ (left : List ℕ). IsReadTo g.T.Commands.says c.args.text.now [] left) (sym c.of-lines.ensures) (read_none g.T.Commands.says c.args.text.now), refl, c.in_ok-world.ensures)
 
 pub overflow_add-number : goal.overflow_add-number
 overflow_add-number g c =
     let i = c.loop-line.invariant in
-    let few = few_events c.args.text.now i.0 c.loop-line.lines i.1 in
+    let few = few_events g.T.Commands.says c.args.text.now i.0 c.loop-line.lines i.1 in
     let number = i.2 in
     let short = c.requires.short in
     omega arith
@@ -25,21 +24,21 @@ loop-line-preserved g c =
     let k = g.S.Session.kind in
     let rules = g.S.Store.Machine.rules in
     let t = rw c.if-not-branch.false at c.in_ok-play_line.ensures in
-    let grown = runs-append k rules c.args.key c.args.params (start k rules c.args.params) i.0 (t.0 ∷ []) in (
+    let grown = run-append k rules c.args.key c.args.params (start k rules c.args.params) i.0 (t.0 ∷ []) in (
       i.0 ++ t.0 ∷ [],
-      read_more c.args.text.now i.0 c.loop-line.lines c.in-Some.line.now c.next_line.new.self t.0 i.1 c.in-Some.ensures.some t.1,
+      read_more g.T.Commands.says c.args.text.now i.0 c.loop-line.lines c.in-Some.line.now c.next_line.new.self t.0 i.1 c.in-Some.ensures.some t.1,
       ap (λ (n : ℕ). n + 1) i.2 ∙ sym (length_push i.0 t.0),
-      subst (λ w. WorldStands g.S.Session.state g.S.Store.Machine.stands_for c.args.key c.play_line.new.world w) (sym grown) (t.2 c.args.key c.args.params (world_of k rules c.args.key c.args.params i.0) i.3),
+      subst (λ w. WorldStands g.S.Session.state g.S.Store.Machine.stands_for c.args.key c.args.params c.play_line.new.world w) (sym grown) (t.2 c.args.key c.args.params (run k rules c.args.key c.args.params (start k rules c.args.params) i.0) i.3),
     )
 
 pub returns-then-not-branch : goal.returns-then-not-branch
 returns-then-not-branch g c =
     let i = c.loop-line.invariant in
     let t = rw c.if-not-branch.true at c.in_ok-play_line.ensures in
-    let bad = read_bad c.args.text.now i.0 c.loop-line.lines c.in-Some.line.now c.next_line.new.self i.1 c.in-Some.ensures.some t in
-    subst (λ (n : ℕ). IsFirstBad g.row.S-Store-Command.Denot c.args.text.now n) (ap (λ (n : ℕ). n + 1) (sym i.2)) bad
+    let bad = read_bad g.T.Commands.says c.args.text.now i.0 c.loop-line.lines c.in-Some.line.now c.next_line.new.self i.1 c.in-Some.ensures.some t in
+    subst (λ (n : ℕ). IsFirstBad g.T.Commands.says c.args.text.now n) (ap (λ (n : ℕ). n + 1) (sym i.2)) bad
 
 pub returns : goal.returns
 returns g c =
     let i = c.loop-line.invariant in
-    (i.0, read_whole c.args.text.now i.0 (subst (λ (left : List ℕ). IsReadTo c.args.text.now i.0 left) c.in_default.ensures.none.0 i.1), i.3)
+    (i.0, read_whole g.T.Commands.says c.args.text.now i.0 (subst (λ (left : List ℕ). IsReadTo g.T.Commands.says c.args.text.now i.0 left) c.in_default.ensures.none.0 i.1), i.3)

@@ -1,8 +1,7 @@
 use Rattle.std.proofs.Common.{sym, subst}
 use Rattle.forwarder_core.specs.Starting.{CanStart}
-use Rattle.forwarder_core.specs.Built.{world_of}
-use Rattle.tally_session.specs.Tally.{tally_kind, tally_rules}
 use Rattle.proxy_replay.specs.Client.{client_key, client_params}
+use Rattle.proxy_replay.specs.Generating.{world_of}
 use Rattle.proxy_replay.proofs.Starting.{client_can_start}
 use Rattle.proxy_replay.proofs.top.answer_to.Goals as goal
 
@@ -12,4 +11,4 @@ play-requires-clause-start c = subst CanStart (sym c.in_ok-params.ensures) clien
 pub returns-in_ok-report-in-Whole : goal.returns-in_ok-report-in-Whole
 returns-in_ok-report-in-Whole c =
     let t = rw (c.in-Whole.is, c.in_ok-params.ensures, c.key.ensures) at c.in_ok-played.ensures in
-    (t.0, t.1, c.in_ok-report-in-Whole.ensures client_key (world_of tally_kind tally_rules client_key client_params t.0) t.2)
+    (t.0, t.1, c.in_ok-report-in-Whole.ensures client_key client_params (world_of t.0) t.2)

@@ -6,8 +6,8 @@ use Rattle.proxy_replay.proofs.top.report_for.Goals as goal
 
 pub returns : goal.returns
 unfolding report_by
-returns g c key d h =
+returns g c key p d h =
     c.in_ok-report.ensures.text
-    ∙ ap (λ p. report_text p c.counts.result c.received.result.now) (c.phase.ensures key d h)
-    ∙ ap (λ n. report_text (phase_of d.mode) n c.received.result.now) (c.counts.ensures key d h)
-    ∙ ap (λ b. report_text (phase_of d.mode) (counts_of d) b) (c.received.ensures.stands key d h)
+    ∙ ap (λ w. report_text w c.counts.result c.received.result.now) (c.phase.ensures key p d h)
+    ∙ ap (λ n. report_text (phase_of d.mode) n c.received.result.now) (c.counts.ensures key p d h)
+    ∙ ap (λ b. report_text (phase_of d.mode) (counts_of d) b) (c.received.ensures.stands key p d h)

@@ -1,65 +1,28 @@
-use Rattle.std.proofs.Common.{◌≡◌, ◌+◌, ◌++◌, ◌∷◌, [], length, take, refl, ap, arith}
-use Rattle.std.specs.Prelude.{◌==◌}
-use Rattle.std.proofs.lemmas.List.{length_push}
-use Rattle.pgw_frames.specs.Frames.{bad}
-use Rattle.forwarder_world.specs.declared.counts.Counts.{Counts}
-use Rattle.forwarder_world.specs.declared.event.Close.TheVariants.{Bye}
-use Rattle.forwarder_world.specs.World.{counted}
-use Rattle.forwarder_core.proofs.Standing.{mode_by, forwards_on, goes_on}
+use Rattle.std.proofs.Common.{Bool, sym, ap, subst, length, take, ◌∙◌}
+use Rattle.std.specs.Prelude.{slice_get, if◌then◌else◌}
+use Rattle.pgw_frames.specs.Frames.{frames, bad}
+use Rattle.forwarder_world.specs.World.{forwards}
+use Rattle.forwarder_core.specs.Flow.{flow_of, ConnectionStands, Comes}
+use Rattle.forwarder_core.specs.Stands.{is_held, ForwarderStands}
+use Rattle.forwarder_core.proofs.Standing.{goes_on, comes_in, forwards_unparked, no_transfer_unparked}
 use Rattle.forwarder_core.proofs.forwarder.Forwarder.forward.Goals as goal
 
-pub returns-in_ok-send-in-Frame-clause-stands : goal.returns-in_ok-send-in-Frame-clause-stands
-returns-in_ok-send-in-Frame-clause-stands g c key d h =
-    let at = rw c.in-Frame.is at c.in_ok-f.ensures.next in
-    let n = at d.script d.read d.forwarded h.request in
-    let f = c.in-Frame.f in
-    let before : c.args.self.now.counts.forwarded ≡ counted (length d.forwarded) = ap (λ (n : Counts). n.forwarded) h.counts in
-    let more : length (d.forwarded ++ f ∷ []) ≡ length d.forwarded + 1 = length_push d.forwarded f in
-    let forwarded : c.saturating_add-self.result ≡ counted (length (d.forwarded ++ f ∷ [])) = omega arith in
-    let uncut = h.link.uncut in
-    rw (n.0, forwards_on d f (bad (take d.read d.script)) uncut) (record {
-      same_key = h.same_key;
-      phase = rw c.close_at_terminate.ensures (mode_by (f.tag == 88) c.args.self.now.phase d.mode Bye h.phase);
-      counts = rw forwarded (ap (λ (n : Counts). record n { forwarded = counted (length (d.forwarded ++ f ∷ [])) }) h.counts);
-      going_on = h.going_on;
-      request = n.1;
-      link = c.in_ok-send-in-Frame.ensures d.link h.link;
-      alone = h.alone;
-      store = h.store;
-      greeted = h.greeted;
-      received = h.received;
-    })
+pub returns-then-not-is_forwarding-clause-stands : goal.returns-then-not-is_forwarding-clause-stands
+returns-then-not-is_forwarding-clause-stands g c key p d alive st =
+    let h = goes_on g.S.Session.state g.S.Store.Machine.stands_for key p c.args.self.now d d.mode alive st in
+    let off = sym (c.is_forwarding.ensures d.mode h.phase) ∙ c.if-not-is_forwarding.true in
+    let v = forwards d (slice_get (frames (take d.read d.script)) (length d.forwarded)) (bad (take d.read d.script)) in
+    subst (λ w. ForwarderStands g.S.Session.state g.S.Store.Machine.stands_for key p c.args.self.now w) (sym (ap (λ b. if b then v else d) off)) st
 
-pub returns-in-Need-clause-stands : goal.returns-in-Need-clause-stands
-returns-in-Need-clause-stands g c key d h =
-    let at = rw c.in-Need.is at c.in_ok-f.ensures.next in
-    let n = at d.script d.read d.forwarded h.request in
-    rw (n.0, n.1, goes_on d h.going_on) (record {
-      same_key = h.same_key;
-      phase = h.phase;
-      counts = h.counts;
-      going_on = h.going_on;
-      request = n.2;
-      link = h.link;
-      alone = h.alone;
-      store = h.store;
-      greeted = h.greeted;
-      received = h.received;
-    })
-
-pub returns-in-BadLength-clause-stands : goal.returns-in-BadLength-clause-stands
-returns-in-BadLength-clause-stands g c key d h =
-    let at = rw c.in-BadLength.is at c.in_ok-f.ensures.next in
-    let n = at d.script d.read d.forwarded h.request in
-    rw (n.0, n.1) (record {
-      same_key = h.same_key;
-      phase = rw c.close.ensures refl;
-      counts = h.counts;
-      going_on = h.going_on;
-      request = n.2;
-      link = h.link;
-      alone = h.alone;
-      store = h.store;
-      greeted = h.greeted;
-      received = h.received;
-    })
+pub returns-clause-stands : goal.returns-clause-stands
+returns-clause-stands g c key p d alive st =
+    let h = goes_on g.S.Session.state g.S.Store.Machine.stands_for key p c.args.self.now d d.mode alive st in
+    let on = sym (c.is_forwarding.ensures d.mode h.phase) ∙ c.if-not-is_forwarding.false in
+    let v = forwards d (slice_get (frames (take d.read d.script)) (length d.forwarded)) (bad (take d.read d.script)) in
+    let unparked = forwards_unparked d.mode on in
+    let old = subst (λ (x : Bool). ConnectionStands g.S.Session.state g.S.Store.Machine.stands_for key p c.args.self.now.connection (flow_of d) x (is_held d.mode)) unparked h.connection in
+    let new = c.in_ok-why.ensures.stands key p d (is_held d.mode) old in
+    let back = subst (λ (x : Bool). Comes g.S.Session.state g.S.Store.Machine.stands_for key p c.in_ok-why.why c.forward.new.self v d.mode x (is_held d.mode)) (sym unparked) new in
+    subst (λ w. ForwarderStands g.S.Session.state g.S.Store.Machine.stands_for key p (record c.args.self.now { phase = c.close.new.phase; connection = c.forward.new.self }) w) (sym (ap (λ b. if b then v else d) on))
+    (comes_in g.S.Session.state g.S.Store.Machine.stands_for key p c.args.self.now c.forward.new.self c.close.new.phase c.in_ok-why.why d v alive h c.close.ensures back
+    (no_transfer_unparked c.args.self.now.exchange p d.fresh v.fresh d.mode unparked h.transfer))

@@ -1,32 +1,27 @@
-use Rattle.std.proofs.Common.{◌≡◌, ◌+◌, ◌++◌, ◌∷◌, [], length, Some, refl, sym, ap, ◌∙◌, arith}
-use Rattle.std.specs.Prelude.{if◌then◌else◌}
-use Rattle.std.proofs.lemmas.List.{length_push}
-use Rattle.session_model.specs.Heard.{with_key, has_ready}
-use Rattle.forwarder_world.specs.declared.counts.Counts.{Counts}
+use Rattle.std.proofs.Common.{◌≡◌, Bool, true, false, sym, ap, subst, ◌∙◌}
+use Rattle.std.specs.Prelude.{not, if◌then◌else◌}
 use Rattle.forwarder_world.specs.Link.{next_of_read}
-use Rattle.forwarder_world.specs.World.{counted}
-use Rattle.forwarder_world.proofs.Keyed.{has_ready-push}
+use Rattle.forwarder_world.specs.World.{passing, passes}
+use Rattle.forwarder_core.specs.Flow.{flow_of, ConnectionStands, Comes}
+use Rattle.forwarder_core.specs.Stands.{is_parked, is_held, ForwarderStands}
+use Rattle.forwarder_core.proofs.Standing.{goes_on, comes_in, passes_unheld, no_transfer_unheld}
 use Rattle.forwarder_core.proofs.forwarder.Forwarder.pass.Goals as goal
 
-pub returns-in_ok-write_frame-in-Some-clause-stands : goal.returns-in_ok-write_frame-in-Some-clause-stands
-returns-in_ok-write_frame-in-Some-clause-stands g c key d h =
-    let f = c.in-Some.f in
-    let is = rw c.in-Some.is at c.in_ok-next_reply.ensures.next in
-    let next : Some f ≡ next_of_read d.link = is d.link h.link in
-    let leads = rw c.in-Some.is at c.in_ok-next_reply.ensures.link in
-    let before : c.args.self.now.counts.passed ≡ counted (length d.passed) = ap (λ (n : Counts). n.passed) h.counts in
-    let more : length (d.passed ++ f ∷ []) ≡ length d.passed + 1 = length_push d.passed f in
-    let passed : c.saturating_add-self.result ≡ counted (length (d.passed ++ f ∷ [])) = omega arith in
-    let shown : c.in_ok-g-in-Some.g ≡ (if has_ready d.passed then f else with_key key f) = rw (← h.greeted, ← h.same_key) c.in_ok-g-in-Some.ensures.shown in
-    rw (← next) (record {
-      same_key = h.same_key;
-      phase = h.phase;
-      counts = rw passed (ap (λ (n : Counts). record n { passed = counted (length (d.passed ++ f ∷ [])) }) h.counts);
-      going_on = h.going_on;
-      request = h.request;
-      link = leads d.link h.link;
-      alone = h.alone;
-      store = h.store;
-      greeted = c.is_greeted-greeted.ensures ∙ rw h.greeted (sym (has_ready-push d.passed f));
-      received = c.in_ok-write_frame-in-Some.ensures.ok ∙ rw (h.received, shown) refl;
-    })
+pub returns-then-self-clause-stands : goal.returns-then-self-clause-stands
+returns-then-self-clause-stands g c key p d alive st =
+    let h = goes_on g.S.Session.state g.S.Store.Machine.stands_for key p c.args.self.now d d.mode alive st in
+    let off : passing d.mode ≡ false = passes_unheld d.mode alive ∙ ap not (sym h.held ∙ c.if-self.true) in
+    subst (λ v. ForwarderStands g.S.Session.state g.S.Store.Machine.stands_for key p c.args.self.now v) (sym (ap (λ b. if b then passes key d (next_of_read d.link) else d) off)) st
+
+pub returns-clause-stands : goal.returns-clause-stands
+returns-clause-stands g c key p d alive st =
+    let h = goes_on g.S.Session.state g.S.Store.Machine.stands_for key p c.args.self.now d d.mode alive st in
+    let unheld : is_held d.mode ≡ false = sym h.held ∙ c.if-self.false in
+    let on : passing d.mode ≡ true = passes_unheld d.mode alive ∙ ap not unheld in
+    let v = passes key d (next_of_read d.link) in
+    let old = subst (λ (x : Bool). ConnectionStands g.S.Session.state g.S.Store.Machine.stands_for key p c.args.self.now.connection (flow_of d) (is_parked d.mode) x) unheld h.connection in
+    let new = c.in_ok-why.ensures.stands key p d (is_parked d.mode) old in
+    let again = subst (λ (x : Bool). Comes g.S.Session.state g.S.Store.Machine.stands_for key p c.in_ok-why.why c.pass.new.self v d.mode (is_parked d.mode) x) (sym unheld) new in
+    subst (λ w. ForwarderStands g.S.Session.state g.S.Store.Machine.stands_for key p (record c.args.self.now { phase = c.close.new.phase; connection = c.pass.new.self }) w) (sym (ap (λ b. if b then v else d) on))
+    (comes_in g.S.Session.state g.S.Store.Machine.stands_for key p c.args.self.now c.pass.new.self c.close.new.phase c.in_ok-why.why d v alive h c.close.ensures again
+    (no_transfer_unheld c.args.self.now.exchange p d.fresh v.fresh d.mode unheld h.transfer))

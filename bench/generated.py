@@ -1,0 +1,125 @@
+#!/usr/bin/env python3
+"""Measures generated runs beside sha256sum over the texts of the same schedules, in one run.
+
+usage: bench/generated.py [NUMBER] [RUNS]
+
+Writes the schedules of a number (1) as text, by a generator of its own, checks that a run over such a text
+ends as `gen` says it does, and prints the median processor times with their ratio, the most memory, and what
+twice the messages cost.
+"""
+import hashlib
+import os
+import statistics
+import subprocess
+import sys
+import tempfile
+
+from replay import PROGRAM, cost
+
+MASK = (1 << 64) - 1
+STREAM = 54
+OPENING = "back 65535\npass\npass\npass\n"
+UP_TO_DIAL = "stop\npark\nhold\nstart {key}\nmove\ndeliver 65535\npod\n" + "move\n" * 5
+REST = "move\n" + ("deliver new 65535\npod new\n" + "move\n" * 4) * 2
+NEW_CUT = "move\ncut new 0\nmove\n"
+
+
+class Pcg32:
+    """PCG XSH RR 64/32, as its authors' demonstration in C has it."""
+
+    def __init__(self, number):
+        self.increment = (STREAM << 1) | 1
+        self.state = (number + self.increment) & MASK
+        self.step()
+
+    def step(self):
+        self.state = (self.state * 6364136223846793005 + self.increment) & MASK
+
+    def word(self):
+        old = self.state
+        self.step()
+        mixed = (((old >> 18) ^ old) >> 27) & 0xFFFFFFFF
+        turn = old >> 59
+        return (mixed >> turn | mixed << (-turn & 31)) & 0xFFFFFFFF
+
+
+def frame(tag, body=b""):
+    return tag + (len(body) + 4).to_bytes(4, "big") + body
+
+
+def sends(frames, second, replies):
+    """The client gives these messages at once, and they are read in pieces."""
+    text, piece = b"".join(frames), 1 + second % 64
+    return (
+        f"give {text.hex()}\n" + f"read {piece}\n" * -(-len(text) // piece) + "forward\n" * len(frames)
+        + "deliver 65535\n" + "pod\n" * len(frames) + "back 65535\n" + "pass\n" * replies
+    )
+
+
+def turn(at, words):
+    kind, second = words.word() % 8, words.word()
+    if kind < 5:
+        return sends([frame(b"Q", b"%d\0" % at)], second, 2)
+    if kind == 5:
+        return sends([frame(b"S")], second, 1)
+    if kind == 6:
+        return sends([frame(b"Q", b"COPY t FROM STDIN\0"), frame(b"d", b"x"), frame(b"c")], second, 3)
+    key = "".join(f"{words.word():08x}" for _ in range(4))
+    dialed = UP_TO_DIAL.format(key=key)
+    return [dialed + REST, dialed + REST, "nodial\n" + dialed, dialed + NEW_CUT][second % 4]
+
+
+def write_schedule(path, number, messages):
+    words = Pcg32(number)
+    with open(path, "w") as out:
+        out.write(OPENING)
+        for at in range(messages):
+            out.write(turn(at, words))
+
+
+def told(words, path):
+    """What a run prints, by the first word of each line."""
+    with open(path, "rb") as schedule:
+        lines = subprocess.run([PROGRAM, *words], stdin=schedule, check=True, capture_output=True, text=True)
+    return [line.split(" ") for line in lines.stdout.splitlines()]
+
+
+def check(path, number, messages):
+    """The run over the text ends as the summary of its number says."""
+    summary = {line[0]: line[-1] for line in told(["gen", str(number), str(messages)], os.devnull)}
+    report = told(["run", "tally"], path)
+    counts = {line[0]: line[-1] for line in report if len(line) == 2}
+    received = bytes.fromhex("".join(line[0] for line in report if len(line) == 1 and line[0] != "end"))
+    with open(path) as schedule:
+        counts["events"] = str(sum(1 for _ in schedule))
+    counts["sha256"] = hashlib.sha256(received).hexdigest()
+    for name in ("events", "phase", "moves", "failed", "forwarded", "passed", "received", "sha256"):
+        if summary[name] != counts[name]:
+            sys.exit(f"{messages} messages: {name} is {summary[name]} by gen, {counts[name]} by run")
+    return summary["events"]
+
+
+def main():
+    number = int(sys.argv[1]) if len(sys.argv) > 1 else 1
+    runs = int(sys.argv[2]) if len(sys.argv) > 2 else 7
+    if not os.path.exists(PROGRAM):
+        sys.exit("build the program first: bin/sqlproxy-replay run < examples/first.schedule")
+    with tempfile.TemporaryDirectory() as folder:
+        path, ours = os.path.join(folder, "schedule"), {}
+        print("| messages | events | bytes | gen s | sha256sum s | ratio | memory MiB |")
+        print("|---|---|---|---|---|---|---|")
+        for messages in (20_000, 40_000, 100_000):
+            write_schedule(path, number, messages)
+            events = check(path, number, messages)
+            words = [PROGRAM, "gen", str(number), str(messages)]
+            pairs = [(*cost(words, os.devnull), cost(["sha256sum"], path)[0]) for _ in range(runs)]
+            ours[messages], most, theirs = map(statistics.median, zip(*pairs))
+            print(
+                f"| {messages} | {events} | {os.path.getsize(path)} | {ours[messages]:.3f} | {theirs:.3f} "
+                f"| {ours[messages] / theirs:.2f} | {most / 1024:.1f} |"
+            )
+        print(f"\n40,000 messages cost {ours[40_000] / ours[20_000]:.2f} times what 20,000 do")
+
+
+if __name__ == "__main__":
+    main()

@@ -1,0 +1,48 @@
+-- A schedule that is made from a number, turn by turn.
+use Rattle.std.proofs.Common.{◌≡◌, ◌≤◌, ℕ, zero, suc, ◌+◌, ◌*◌, List, ◌++◌, length, refl, sym, ap, subst, ◌∙◌, arith}
+use Rattle.std.proofs.lemmas.List.{length-append}
+use Rattle.rand_pcg.specs.Lcg.{Lcg}
+use Rattle.forwarder_world.specs.World.{World, run, start, phase_of, counts_of}
+use Rattle.forwarder_world.specs.declared.event.Event.{Event}
+use Rattle.forwarder_core.specs.Stands.{WorldStands}
+use Rattle.forwarder_core.proofs.Schedules.{run-append}
+use Rattle.generated_run.specs.Generated.{generated, opening, turn, turns, words_of}
+use Rattle.tally_session.specs.Tally.{Tally, tally_kind, tally_rules}
+use Rattle.tally_session.specs.declared.store.Nothing.{Nothing}
+use Rattle.proxy_replay.specs.Client.{client_params, client_key}
+use Rattle.forwarder_world.specs.declared.counts.Counts.{Counts}
+use Rattle.forwarder_world.specs.declared.event.Phase.{Phase}
+use Rattle.proxy_replay.specs.Generating.{world_of, summary_by, IsPlayedTo}
+use Rattle.proxy_replay.specs.Summary.{summary_text}
+use Rattle.proxy_replay.specs.declared.generated.Generated.{Generated}
+
+pub played_none : (number : ℕ) (g : Generated) → g.words ≡ words_of number → g.events ≡ 4 → WorldStands (λ (s : Tally). s) (λ m t. Unit {0}) client_key client_params g.world (world_of opening) → IsPlayedTo number 0 g
+unfolding turns
+played_none number g words events world = record { words = words; events = events; few = omega arith; world = world }
+
+-- the parts of a turn
+parts : (n : ℕ) (g h : Lcg) (es : List (Event Nothing)) → (es, h) ≡ turn n g → (es ≡ (turn n g).0) × (h ≡ (turn n g).1)
+parts n g h es is = (ap (λ (t : List (Event Nothing) × Lcg). t.0) is, ap (λ (t : List (Event Nothing) × Lcg). t.1) is)
+
+pub played_more : (number n : ℕ) (g h : Generated) (es : List (Event Nothing)) → IsPlayedTo number n g → (es, h.words) ≡ turn n g.words → length es ≤ 64 → h.events ≡ g.events + length es
+    → WorldStands (λ (s : Tally). s) (λ m t. Unit {0}) client_key client_params h.world (run tally_kind tally_rules client_key client_params (world_of (generated number n)) es)
+    → IsPlayedTo number (n + 1) h
+unfolding turns
+played_more number n g h es before is short events world =
+    let one : suc n ≡ n + 1 = omega arith in
+    let so_far = turns n (words_of number) in
+    let t = parts n g.words h.words es is in
+    let same : es ≡ (turn n so_far.1).0 = t.0 ∙ ap (λ (w : Lcg). (turn n w).0) before.words in
+    let all : generated number (suc n) ≡ generated number n ++ es = ap (λ (x : List (Event Nothing)). generated number n ++ x) (sym same) in
+    subst (λ (k : ℕ). IsPlayedTo number k h) one (record {
+      words = t.1 ∙ ap (λ (w : Lcg). (turn n w).1) before.words;
+      events = events ∙ ap (λ (k : ℕ). k + length es) before.events ∙ sym (length-append (generated number n) es) ∙ ap length (sym all);
+      few = omega (arith, before.few);
+      world = subst (WorldStands (λ (s : Tally). s) (λ m t. Unit {0}) client_key client_params h.world) (sym (run-append tally_kind tally_rules client_key client_params (start tally_kind tally_rules client_params) (generated number n) es) ∙ ap world_of (sym all)) world;
+    })
+
+-- what is told of a world
+pub told : (number messages n : ℕ) (phase : Phase) (counts : Counts) (received : List ℕ) (m : ℕ) (w : World Tally (Unit {0}) Nothing) → n ≡ m → phase ≡ phase_of w.mode → counts ≡ counts_of w → received ≡ w.received
+    → summary_text number messages n phase counts received ≡ summary_by number messages m w
+unfolding summary_by
+told number messages n phase counts received m w same_n same_phase same_counts same_received = rw (same_n, same_phase, same_counts, same_received) refl
