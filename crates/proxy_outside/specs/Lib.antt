@@ -5,3 +5,5 @@ pub mod Supply
 pub mod MemSource
 pub mod MemSink
 pub mod Addr
+pub mod Orders
+pub mod Tables

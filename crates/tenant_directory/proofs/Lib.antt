@@ -1,0 +1,4 @@
+pub mod Watching
+pub mod OneRowMore
+pub mod Listings
+pub mod Standing

@@ -1,0 +1,5 @@
+pub mod Pods
+pub mod Rows
+pub mod Newest
+pub mod Standing
+pub mod Faults

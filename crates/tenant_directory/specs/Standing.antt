@@ -1,0 +1,32 @@
+-- What a directory keeps, and of which rows it is the outcome.
+use Rattle.std.specs.Prelude.{◌≡◌, ℕ, List, Option, Some, None}
+use Rattle.std.specs.FinMap as map
+use Rattle.std.specs.Coded.{Coded, coded×, code_by}
+use Rattle.std.proofs.Common.{refl}
+use Rattle.proxy_outside.specs.declared.identity.TenantId.{TenantId}
+use Rattle.proxy_outside.specs.declared.identity.SessionNo.{SessionNo}
+use Rattle.proxy_outside.specs.Orders.{tenants, sessions}
+use Rattle.tenant_directory.specs.declared.directory.Home.{Home}
+use Rattle.tenant_directory.specs.Rows.{Row}
+use Rattle.tenant_directory.specs.Newest.{rows_of, newest, stale_version}
+
+-- of each tenant the row that counts, and of each settled session its home
+pub record Listing : Type 0 where
+  pub rows : map.FinMap tenants Row
+  pub homes : map.FinMap sessions Home
+
+abbrev pub listing_code : Coded TenantId → Coded SessionNo → Coded Row → Coded Home → Coded Listing
+listing_code t s r h =
+    code_by (map.FinMap tenants Row × map.FinMap sessions Home) (coded× (map.code t r) (map.code s h)) (λ d. (d.rows, d.homes)) (λ p. record { rows = p.0; homes = p.1 }) (λ _. refl)
+
+abbrev pub put_unless : Option ℕ → map.FinMap tenants Row → Row → map.FinMap tenants Row
+put_unless None rows row = map.insert rows row.tenant row
+put_unless (Some version) rows row = rows
+
+-- the rows that are kept after a further one: it is put in, unless it is stale
+abbrev pub rows_after : map.FinMap tenants Row → Row → map.FinMap tenants Row
+rows_after rows row = put_unless (stale_version (map.get rows row.tenant) row) rows row
+
+-- of each tenant it has what follows from these rows, which it does not keep
+abbrev pub StandsFor : Listing → List Row → Type 0
+StandsFor d rows = (tenant : TenantId) → map.get d.rows tenant ≡ newest (rows_of tenant rows)
