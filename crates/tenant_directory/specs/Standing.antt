@@ -15,15 +15,17 @@ pub record Listing : Type 0 where
   pub rows : map.FinMap tenants Row
   pub homes : map.FinMap sessions Home
 
+-- a listing is stored as the pair of its maps
 abbrev pub listing_code : Coded TenantId → Coded SessionNo → Coded Row → Coded Home → Coded Listing
 listing_code t s r h =
     code_by (map.FinMap tenants Row × map.FinMap sessions Home) (coded× (map.code t r) (map.code s h)) (λ d. (d.rows, d.homes)) (λ p. record { rows = p.0; homes = p.1 }) (λ _. refl)
 
+-- the row is put in at its tenant, unless a version makes it stale
 abbrev pub put_unless : Option ℕ → map.FinMap tenants Row → Row → map.FinMap tenants Row
 put_unless None rows row = map.insert rows row.tenant row
 put_unless (Some version) rows row = rows
 
--- the rows that are kept after a further one: it is put in, unless it is stale
+-- the rows that are kept after a further one came
 abbrev pub rows_after : map.FinMap tenants Row → Row → map.FinMap tenants Row
 rows_after rows row = put_unless (stale_version (map.get rows row.tenant) row) rows row
 
