@@ -1,0 +1,15 @@
+pub mod Finding
+pub mod Leading
+pub mod OnePick
+pub mod LoadsOn
+pub mod Counting
+pub mod Ranks
+pub mod Along
+pub mod Filling
+pub mod Spots
+pub mod Assigning
+pub mod Shares
+pub mod Moving
+pub mod Achieving
+pub mod Balanced
+pub mod Laws
