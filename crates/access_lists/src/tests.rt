@@ -30,6 +30,7 @@ fn addresses_of_the_standard(rt: HostRuntime) {
     }
     assert_eq!(rt; read_addr("10.1.2.3"), Ok(CLIENT));
     assert_eq!(rt; read_addr("255.255.255.255"), Ok(Addr::V4(0xffff_ffff)));
+    assert_eq!(rt; read_addr("0001::00ff"), Ok(Addr::V6(0x0001 << 112 | 0xff)));
     assert_eq!(rt; read_addr("::ffff:a01:203"), Ok(Addr::V6(0xffff_0a01_0203)));
     assert_eq!(rt; read_addr("1:2:3:4:5:6:7::"), read_addr("1:2:3:4:5:6:7:0"));
 }
@@ -53,6 +54,14 @@ fn texts_that_are_no_address(rt: HostRuntime) {
         "1:2:3:4:5:6:7:8:9",
         "1:2:3:4:5:6:7::8",
         "12345::",
+        "00001::",
+        "::00001",
+        "1:2:3:4:5:6:7:",
+        ":2:3:4:5:6:7:8",
+        "1:2:3:4:5:6:7:8::",
+        "10.0.0.",
+        ".10.0.0",
+        "00.0.0.0",
         "g::",
         "::ffff:10.1.2.3",
         "[::1]",
@@ -75,6 +84,8 @@ fn networks(rt: HostRuntime) {
         ("2001:db8::/32", "2001:db8::1", "2001:db9::"),
         ("::ffff:0:0/96", "::ffff:a01:203", "10.1.2.3"),
         ("::1/128", "::1", "::"),
+        ("::1", "::1", "::2"),
+        ("10.1.2.3/32", "10.1.2.3", "10.1.2.2"),
     ];
     for (text, inside, outside) in rows {
         let (Ok(net), Ok(inside), Ok(outside)) = (
@@ -95,10 +106,15 @@ fn texts_that_are_no_network(rt: HostRuntime) {
         ("2001:db8:::1", NetFault::BadAddress),
         ("10.0.0.01", NetFault::BadAddress),
         ("10.0.0.01/33", NetFault::BadAddress),
+        ("1:2:3:4:5:6:7:8:9/8", NetFault::BadAddress),
+        ("", NetFault::BadAddress),
+        ("/", NetFault::BadAddress),
         ("/8", NetFault::BadAddress),
         ("10.0.0.0/33", NetFault::BadPrefix),
         ("::/129", NetFault::BadPrefix),
         ("::/256", NetFault::BadPrefix),
+        ("::/0129", NetFault::BadPrefix),
+        ("10.0.0.0/00", NetFault::BadPrefix),
         ("10.0.0.0/", NetFault::BadPrefix),
         ("10.0.0.0/08", NetFault::BadPrefix),
         ("10.0.0.0/+8", NetFault::BadPrefix),

@@ -4,3 +4,4 @@ pub mod TenantLemmas
 pub mod ClusterLemmas
 pub mod LastDash
 pub mod Spelled
+pub mod PlainTexts

@@ -1,4 +1,4 @@
-pub mod Texts
+pub mod Rejections
 pub mod Tenants
 pub mod Clusters
 pub mod Routes

@@ -1,8 +1,9 @@
 //! Why a client is refused at the door.
 
-ghost use Rattle.startup_route.specs.Texts.{code_of, message_of};
+ghost use Rattle.startup_route.specs.Rejections.{rejection_of};
 ghost use Rattle.std.specs.Prelude.{◌≡◌};
 
+use crate::rejection::Rejection;
 use pgw_frames::Text;
 
 /// What is wrong with the first packets of a client. Where more than one is, the first of this list.
@@ -31,31 +32,22 @@ pub enum DoorFault {
     BadTenant(Text),
 }
 
-/// What a refused client is told: the fields C and M of an ErrorResponse of severity `FATAL`.
-#[derive(Clone, Copy, Debug)]
-pub struct FaultText {
-    pub code: &'static str,
-    pub message: &'static str,
-}
-
 impl DoorFault {
-    /// The code and the message of this fault.
-    pub fn text(&self) -> FaultText
-        ensures code { result.code.now ≡ code_of self.now }
-        ensures message { result.message.now ≡ message_of self.now }
+    /// The same as a refused client is told of it.
+    pub fn rejection(&self) -> Rejection
+        ensures { result ≡ rejection_of self.now }
     {
-        let (code, message) = match self {
-            DoorFault::TooLong(_) | DoorFault::BadLength(_) | DoorFault::BadPairs => {
-                ("08P01", "bad startup packet")
-            }
-            DoorFault::BadVersion(_) => ("0A000", "protocol version not supported"),
-            DoorFault::TooManyRequests => ("08P01", "too many encryption requests"),
-            DoorFault::ReservedParam(_) => ("08P01", "reserved parameter"),
-            DoorFault::NoUser => ("08P01", "no user is named"),
-            DoorFault::TwoClusters => ("08004", "two clusters are named"),
-            DoorFault::NoCluster => ("08004", "no cluster is named"),
-            DoorFault::BadTenant(_) => ("08004", "bad cluster name"),
-        };
-        FaultText { code, message }
+        match self {
+            DoorFault::TooLong(_) => Rejection::BadPacket,
+            DoorFault::BadLength(_) => Rejection::BadPacket,
+            DoorFault::BadVersion(_) => Rejection::BadVersion,
+            DoorFault::TooManyRequests => Rejection::TooManyRequests,
+            DoorFault::BadPairs => Rejection::BadPacket,
+            DoorFault::ReservedParam(_) => Rejection::ReservedParam,
+            DoorFault::NoUser => Rejection::NoUser,
+            DoorFault::TwoClusters => Rejection::TwoClusters,
+            DoorFault::NoCluster => Rejection::NoCluster,
+            DoorFault::BadTenant(_) => Rejection::BadTenant,
+        }
     }
 }

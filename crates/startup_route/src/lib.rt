@@ -18,13 +18,15 @@ mod header;
 mod laws;
 mod packet;
 mod refusal;
+mod rejection;
 mod route;
 mod step;
 mod tenant;
 
 pub use door::Door;
-pub use fault::{DoorFault, FaultText};
+pub use fault::DoorFault;
 pub use laws::{each_wanted_byte_is_needed, nothing_behind_it_counts, numbers_stand_last};
+pub use rejection::Rejection;
 pub use step::{DoorStep, Route};
 
 #[cfg(test)]

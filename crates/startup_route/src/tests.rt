@@ -1,5 +1,6 @@
+mod rejections;
+
 use super::*;
-use pgw_frames::Text;
 use std::alloc::Global;
 use std::process::Abort;
 use std::test::*;
@@ -9,10 +10,14 @@ const GSS: &[u8] = b"\0\0\0\x08\x04\xd2\x16\x30";
 
 const SSL: &[u8] = b"\0\0\0\x08\x04\xd2\x16\x2f";
 
-/// What psql 15.18 sent to a listener, with `dbname=happy-koala-7.defaultdb` and the client encoding
-/// set to UTF8.
+/// What psql 15.18 sent to a listener behind its SSLRequest, with `dbname=happy-koala-7.defaultdb` and
+/// the client encoding set to UTF8.
 const PSQL: &[u8] = b"\0\0\0\x60\0\x03\0\0user\0koala\0database\0happy-koala-7.defaultdb\0\
 application_name\0psql\0client_encoding\0UTF8\0\0";
+
+/// The same with `dbname=defaultdb`, `options='--cluster=happy-koala-7 -c geqo=off'` and no encoding.
+const PSQL_OPTIONS: &[u8] = b"\0\0\0\x69\0\x03\0\0user\0koala\0database\0defaultdb\0\
+options\0--cluster=happy-koala-7 -c geqo=off\0application_name\0psql\0\0";
 
 fn fault_name(alloc: Global, fault: &DoorFault) -> Result<String, Fail> {
     Ok(match fault {
@@ -48,12 +53,23 @@ fn answer(alloc: Global, step: &DoorStep) -> Result<String, Fail> {
     })
 }
 
-/// What a door answers to these bytes in pieces of at most so many, and how many bytes it took.
-fn answers(alloc: Global, bytes: &[u8], most: usize) -> Result<(String, usize), Fail> {
+/// What a door answered, how many bytes it took, and how many it wanted before each piece and at the
+/// end.
+#[derive(Drop)]
+struct Heard {
+    text: String,
+    taken: usize,
+    wants: Vec<usize>,
+}
+
+/// What a door answers to these bytes in pieces of at most so many.
+fn answers(alloc: Global, bytes: &[u8], most: usize) -> Result<Heard, Fail> {
     let mut door = Door::new(alloc);
     let mut text = String::new(alloc);
+    let mut wants = Vec::new(alloc);
     let mut rest = bytes;
     while !rest.is_empty() {
+        wants.push(door.want())?;
         let count = door.want().min(most).min(rest.len());
         if count == 0 {
             break;
@@ -63,7 +79,11 @@ fn answers(alloc: Global, bytes: &[u8], most: usize) -> Result<(String, usize), 
         text.push_str(answer(alloc, &step)?.as_str())?;
         rest = behind;
     }
-    Ok((text, bytes.len() - rest.len()))
+    Ok(Heard {
+        text,
+        taken: bytes.len() - rest.len(),
+        wants,
+    })
 }
 
 /// Feeds the bytes whole and one by one, with more behind them.
@@ -77,9 +97,9 @@ fn check(
     let mut all = Vec::from_slice(alloc, bytes)?;
     all.extend_from_slice(b"p\0\0\0\x08abc\0")?;
     for most in [usize::MAX, 1, 5] {
-        let (text, count) = answers(alloc, &all, most)?;
-        assert_eq!(rt; text.as_str(), want);
-        assert_eq!(rt; count, taken, "at {want}");
+        let heard = answers(alloc, &all, most)?;
+        assert_eq!(rt; heard.text.as_str(), want);
+        assert_eq!(rt; heard.taken, taken, "at {want}");
     }
     Ok(())
 }
@@ -90,16 +110,49 @@ fn as_psql_does_it(rt: HostRuntime) -> Result<(), Fail> {
     bytes.extend_from_slice(SSL)?;
     bytes.extend_from_slice(PSQL)?;
     let want = "N N 7 user=koala database=defaultdb application_name=psql client_encoding=UTF8";
-    check(&rt, rt.alloc(), &bytes, 112, want)
+    check(&rt, rt.alloc(), &bytes, 112, want)?;
+    let mut bytes = Vec::from_slice(rt.alloc(), SSL)?;
+    bytes.extend_from_slice(PSQL_OPTIONS)?;
+    let want = "N 7 user=koala database=defaultdb options=-c geqo=off application_name=psql";
+    check(&rt, rt.alloc(), &bytes, 113, want)
+}
+
+#[test]
+fn what_a_door_wants(rt: HostRuntime) -> Result<(), Fail> {
+    // The length, the code, and the rest; none behind a route, a key or a fault.
+    let rows: [(&[&[u8]], &[usize]); 6] = [
+        (&[GSS, SSL, PSQL, b"p"], &[4, 4, 4, 4, 4, 4, 88, 0]),
+        (&[SSL, SSL, SSL, b"p"], &[4, 4, 4, 4, 4, 4, 0]),
+        (
+            &[b"\0\0\0\x10\x04\xd2\x16\x2e\0\0\0\x07\x01\x02\x03\x04p"],
+            &[4, 4, 8, 0],
+        ),
+        (&[b"\0\0\x27\x11p"], &[4, 0]),
+        (&[b"\0\0\0\x07p"], &[4, 0]),
+        (&[b"\0\0\x27\x10\0\x03\0\x02p"], &[4, 4, 0]),
+    ];
+    for (packets, wants) in rows {
+        let mut bytes = Vec::new(rt.alloc());
+        for packet in packets {
+            bytes.extend_from_slice(packet)?;
+        }
+        let heard = answers(rt.alloc(), &bytes, usize::MAX)?;
+        assert_eq!(rt; heard.wants.as_slice(), wants);
+    }
+    Ok(())
 }
 
 #[test]
 fn packets_that_are_known_by_their_head(rt: HostRuntime) -> Result<(), Fail> {
-    let rows: [(&[u8], usize, &str); 8] = [
+    let rows: [(&[u8], usize, &str); 12] = [
         (b"\0\0\x27\x11", 4, "TooLong 10001"),
+        (b"\xff\xff\xff\xff", 4, "TooLong 4294967295"),
+        (b"\0\0\0\0", 4, "BadLength 0"),
         (b"\0\0\0\x07", 4, "BadLength 7"),
         (b"\0\0\0\x08\0\x03\0\0", 8, "BadLength 8"),
         (b"\0\0\0\x09\x04\xd2\x16\x2f", 8, "BadLength 9"),
+        (b"\0\0\0\x09\x04\xd2\x16\x30", 8, "BadLength 9"),
+        (b"\0\0\0\x0f\x04\xd2\x16\x2e", 8, "BadLength 15"),
         (b"\0\0\0\x11\x04\xd2\x16\x2e", 8, "BadLength 17"),
         (b"\0\0\x27\x10\0\x03\0\x02", 8, "BadVersion 196610"),
         (
@@ -126,6 +179,23 @@ fn packet(alloc: Global, body: &[u8]) -> Result<Vec<u8>, Fail> {
     bytes.extend_from_slice(b"\0\x03\0\0")?;
     bytes.extend_from_slice(body)?;
     Ok(bytes)
+}
+
+#[test]
+fn the_longest_packet(rt: HostRuntime) -> Result<(), Fail> {
+    let mut body = Vec::from_slice(rt.alloc(), b"user\0koala\0database\0x-7.d\0name\0")?;
+    for _ in 0..9_959 {
+        body.push(b'a')?;
+    }
+    body.extend_from_slice(b"\0\0")?;
+    let bytes = packet(rt.alloc(), &body)?;
+    assert_eq!(rt; bytes.len(), 10_000);
+    for most in [usize::MAX, 1] {
+        let heard = answers(rt.alloc(), &bytes, most)?;
+        assert!(rt; heard.text.starts_with("7 user=koala database=d name=aaa"));
+        assert_eq!(rt; heard.taken, 10_000);
+    }
+    Ok(())
 }
 
 #[test]
@@ -173,7 +243,10 @@ fn routes(rt: HostRuntime) -> Result<(), Fail> {
 
 #[test]
 fn bodies_that_are_refused(rt: HostRuntime) -> Result<(), Fail> {
-    let rows: [(&[u8], &str); 19] = [
+    let rows: [(&[u8], &str); 21] = [
+        // A packet of nine bytes has no pairs, and is whole.
+        (b"\0", "NoUser"),
+        (b"x", "BadPairs"),
         (b"user\0koala\0", "BadPairs"),
         (b"user\0koala\0\0\0", "BadPairs"),
         (b"user\0koala", "BadPairs"),
@@ -209,41 +282,6 @@ fn bodies_that_are_refused(rt: HostRuntime) -> Result<(), Fail> {
     for (body, want) in rows {
         let bytes = packet(rt.alloc(), body)?;
         check(&rt, rt.alloc(), &bytes, bytes.len(), want)?;
-    }
-    Ok(())
-}
-
-#[test]
-fn what_a_refused_client_is_told(rt: HostRuntime) -> Result<(), Fail> {
-    let name = || Text::of(rt.alloc(), "x");
-    let rows = [
-        (DoorFault::TooLong(1), "08P01", "bad startup packet"),
-        (DoorFault::BadLength(1), "08P01", "bad startup packet"),
-        (DoorFault::BadPairs, "08P01", "bad startup packet"),
-        (
-            DoorFault::BadVersion(1),
-            "0A000",
-            "protocol version not supported",
-        ),
-        (
-            DoorFault::TooManyRequests,
-            "08P01",
-            "too many encryption requests",
-        ),
-        (
-            DoorFault::ReservedParam(name()?),
-            "08P01",
-            "reserved parameter",
-        ),
-        (DoorFault::NoUser, "08P01", "no user is named"),
-        (DoorFault::TwoClusters, "08004", "two clusters are named"),
-        (DoorFault::NoCluster, "08004", "no cluster is named"),
-        (DoorFault::BadTenant(name()?), "08004", "bad cluster name"),
-    ];
-    for (fault, code, message) in rows {
-        let text = fault.text();
-        assert_eq!(rt; text.code, code);
-        assert_eq!(rt; text.message, message);
     }
     Ok(())
 }

@@ -1,3 +1,4 @@
+use super::changed;
 use crate::{BackMsg, Field, Items, MsgFault, read_back, write_back};
 use pgw_frames::{Bytes, Frame, Text, write_frame};
 use std::alloc::Global;
@@ -64,8 +65,9 @@ fn one_byte_more_is_trailing(rt: HostRuntime) -> Result<(), Fail> {
 
 #[test]
 fn faults_of_server_messages(rt: HostRuntime) -> Result<(), Fail> {
-    let rows: [(u8, &[u8], MsgFault); 10] = [
+    let rows: [(u8, &[u8], MsgFault); 11] = [
         (b'Z', b"X", MsgFault::BadValue),
+        (b'Z', b"i", MsgFault::BadValue),
         (b'Z', b"XI", MsgFault::BadValue),
         (b'v', b"", MsgFault::UnknownTag(118)),
         (b'R', b"\0\0\0", MsgFault::Short),
@@ -84,6 +86,70 @@ fn faults_of_server_messages(rt: HostRuntime) -> Result<(), Fail> {
     ];
     for (tag, body, want) in rows {
         assert_eq!(rt; fault(rt.alloc(), tag, body)?, Some(want), "{tag} {body:?}");
+    }
+    Ok(())
+}
+
+#[test]
+fn counts_and_lengths_off_by_one(rt: HostRuntime) -> Result<(), Fail> {
+    // The body, and the place of a count's or length's last byte: of columns, values, the bytes of a
+    // value, types and formats.
+    let rows: [(u8, &[u8], usize); 5] = [
+        (
+            b'T',
+            b"\0\x01n\0\0\0\0\0\0\0\0\0\0\x19\xff\xff\xff\xff\xff\xff\0\0",
+            1,
+        ),
+        (b'D', b"\0\x01\0\0\0\x01t", 1),
+        (b'D', b"\0\x01\0\0\0\x01t", 5),
+        (b't', b"\0\x02\0\0\0\x14\0\0\0\x19", 1),
+        (b'G', b"\0\0\x02\0\0\0\0", 2),
+    ];
+    for (tag, body, place) in rows {
+        assert_eq!(rt; fault(rt.alloc(), tag, body)?, None, "{tag} {body:?}");
+        let more = changed(rt.alloc(), body, place, 1)?;
+        let less = changed(rt.alloc(), body, place, 255)?;
+        let more = fault(rt.alloc(), tag, &more)?;
+        let less = fault(rt.alloc(), tag, &less)?;
+        assert_eq!(rt; more, Some(MsgFault::Short), "{tag} {place}");
+        assert_eq!(rt; less, Some(MsgFault::Trailing), "{tag} {place}");
+    }
+    Ok(())
+}
+
+#[test]
+fn texts_of_other_bytes(rt: HostRuntime) -> Result<(), Fail> {
+    // Each text of a message without its zero byte, not in UTF-8, and with a zero byte inside.
+    let rows: [(u8, &[u8], MsgFault); 16] = [
+        (b'S', b"a\0b", MsgFault::Short),
+        (b'S', b"\xff\0b\0", MsgFault::NotText),
+        (b'S', b"a\0\xff\0", MsgFault::NotText),
+        (b'S', b"a\0b\0c\0", MsgFault::Trailing),
+        (b'T', b"\0\x01n", MsgFault::Short),
+        (b'T', b"\0\x01\xff\0", MsgFault::NotText),
+        (b'C', b"S", MsgFault::Short),
+        (b'C', b"\xff\0", MsgFault::NotText),
+        (b'C', b"a\0b\0", MsgFault::Trailing),
+        (b'E', b"Sa\0", MsgFault::Short),
+        (b'E', b"Sa\0\0M\0", MsgFault::Trailing),
+        (b'N', b"S\xff\0\0", MsgFault::NotText),
+        (b'A', b"\0\0\0\x07\xff\0p\0", MsgFault::NotText),
+        (b'A', b"\0\0\0\x07c\0\xff\0", MsgFault::NotText),
+        (b'A', b"\0\0\0\x07c\0p", MsgFault::Short),
+        (b'A', b"\0\0\0\x07c\0p\0q\0", MsgFault::Trailing),
+    ];
+    for (tag, body, want) in rows {
+        assert_eq!(rt; fault(rt.alloc(), tag, body)?, Some(want), "{tag} {body:?}");
+    }
+    Ok(())
+}
+
+#[test]
+fn an_authentication_cut_in_its_code(rt: HostRuntime) -> Result<(), Fail> {
+    let body = b"\0\0\0\x05salt";
+    for len in 0..=body.len() {
+        let want = if len < 4 { Some(MsgFault::Short) } else { None };
+        assert_eq!(rt; fault(rt.alloc(), b'R', &body[..len])?, want, "{len}");
     }
     Ok(())
 }

@@ -1,3 +1,4 @@
+use super::changed;
 use crate::{BindMsg, FrontMsg, Items, MsgFault, read_front, write_front};
 use pgw_frames::{Bytes, Frame, Text, write_frame};
 use std::alloc::Global;
@@ -81,6 +82,77 @@ fn faults_of_client_messages(rt: HostRuntime) -> Result<(), Fail> {
             MsgFault::BadValue,
         ),
         (b'B', b"\0\0\0\0\0\x01\x80\0\0\0\0\0", MsgFault::BadValue),
+    ];
+    for (tag, body, want) in rows {
+        assert_eq!(rt; fault(rt.alloc(), tag, body)?, Some(want), "{tag} {body:?}");
+    }
+    Ok(())
+}
+
+/// A Bind with one item in each of its lists: formats, values, results.
+const BIND: &[u8] = b"p\0s\0\0\x01\0\x01\0\x01\0\0\0\x01x\0\x01\0\x01";
+
+#[test]
+fn counts_and_lengths_off_by_one(rt: HostRuntime) -> Result<(), Fail> {
+    // The body, the place of a count's or length's last byte, and the faults with one more and one less.
+    let rows: [(u8, &[u8], usize, MsgFault, MsgFault); 5] = [
+        // The types of a Parse.
+        (
+            b'P',
+            b"s\0q\0\0\x02\0\0\0\x14\0\0\0\x19",
+            5,
+            MsgFault::Short,
+            MsgFault::Trailing,
+        ),
+        // The formats. With one more, the value's length is the counts of values and results.
+        (b'B', BIND, 5, MsgFault::Trailing, MsgFault::Short),
+        // The values. With one more, the formats of the result are its length.
+        (b'B', BIND, 9, MsgFault::Short, MsgFault::Trailing),
+        // The length of the value. Either way other bytes are the count of the results.
+        (b'B', BIND, 13, MsgFault::Short, MsgFault::Short),
+        // The formats of the result.
+        (b'B', BIND, 16, MsgFault::Short, MsgFault::Trailing),
+    ];
+    for (tag, body, place, more, less) in rows {
+        assert_eq!(rt; fault(rt.alloc(), tag, body)?, None, "{tag} {body:?}");
+        let one_more = changed(rt.alloc(), body, place, 1)?;
+        let one_less = changed(rt.alloc(), body, place, 255)?;
+        assert_eq!(rt;
+            fault(rt.alloc(), tag, &one_more)?,
+            Some(more),
+            "{tag} {place}"
+        );
+        assert_eq!(rt;
+            fault(rt.alloc(), tag, &one_less)?,
+            Some(less),
+            "{tag} {place}"
+        );
+    }
+    Ok(())
+}
+
+#[test]
+fn texts_of_other_bytes(rt: HostRuntime) -> Result<(), Fail> {
+    // Each text of a message without its zero byte, not in UTF-8, and with a zero byte inside.
+    let rows: [(u8, &[u8], MsgFault); 18] = [
+        (b'Q', b"q", MsgFault::Short),
+        (b'Q', b"\xc3\0", MsgFault::NotText),
+        (b'Q', b"a\0b\0", MsgFault::Trailing),
+        (b'P', b"n", MsgFault::Short),
+        (b'P', b"\xff\0q\0\0\0", MsgFault::NotText),
+        (b'P', b"n\0q", MsgFault::Short),
+        (b'P', b"n\0\xff\0\0\0", MsgFault::NotText),
+        (b'P', b"n\0m\0q\0\0\0", MsgFault::Short),
+        (b'B', b"\xff\0s\0\0\0\0\0\0\0", MsgFault::NotText),
+        (b'B', b"p\0\xff\0\0\0\0\0\0\0", MsgFault::NotText),
+        (b'B', b"p\0s\0t\0\0\0\0\0\0\0", MsgFault::Short),
+        (b'D', b"S\xff\0", MsgFault::NotText),
+        (b'D', b"Sa\0b\0", MsgFault::Trailing),
+        (b'C', b"P\xff\0", MsgFault::NotText),
+        (b'E', b"\xff\0\0\0\0\0", MsgFault::NotText),
+        (b'E', b"a\0b\0\0\0\0\0", MsgFault::Trailing),
+        (b'f', b"\xff\0", MsgFault::NotText),
+        (b'f', b"a\0b\0", MsgFault::Trailing),
     ];
     for (tag, body, want) in rows {
         assert_eq!(rt; fault(rt.alloc(), tag, body)?, Some(want), "{tag} {body:?}");

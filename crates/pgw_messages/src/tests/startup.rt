@@ -36,7 +36,7 @@ fn parameters_with_a_name_twice(rt: HostRuntime) -> Result<(), Fail> {
 
 #[test]
 fn faults_of_parameters(rt: HostRuntime) -> Result<(), Fail> {
-    let rows: [(&[u8], Option<MsgFault>); 8] = [
+    let rows: [(&[u8], Option<MsgFault>); 11] = [
         (b"\0", None),
         (b"user\0\0\0", None),
         (b"", Some(MsgFault::Short)),
@@ -45,6 +45,10 @@ fn faults_of_parameters(rt: HostRuntime) -> Result<(), Fail> {
         (b"user\0\0", Some(MsgFault::Short)),
         (b"user\0a\0\0\0", Some(MsgFault::Trailing)),
         (b"user\0\xff\0\0", Some(MsgFault::NotText)),
+        (b"\xff\0a\0\0", Some(MsgFault::NotText)),
+        // With a zero byte inside, `b` begins a name.
+        (b"user\0a\0b\0\0", Some(MsgFault::Short)),
+        (b"user\0a\0b\0c\0\0", None),
     ];
     for (body, want) in rows {
         assert_eq!(rt; read_params(rt.alloc(), body).err(), want, "{body:?}");
