@@ -1,0 +1,5 @@
+pub mod Homes
+pub mod Listing
+pub mod OneRoll
+pub mod Standing
+pub mod Rising
