@@ -79,8 +79,8 @@ impl<M: Machine> Desk<M> {
         ensures ok { IfOk result (Made M.rules self.now.most seat.old seat.new command) }
         ensures err { IfErr result (Missed M.rules self.now.most seat.old seat.new) }
     {
-        let (ticket, mut logged) = self.lock.enter(rt, &mut seat.lock_seat);
-        let answer = log_call(&mut logged, self.lock.most, ticket, command);
+        let (ticket, logged) = self.lock.enter(rt, &mut seat.lock_seat);
+        let (logged, answer) = log_call(logged, self.lock.most, ticket, command);
         self.lock.leave(&mut seat.lock_seat, logged);
         answer
     }

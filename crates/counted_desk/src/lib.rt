@@ -1,8 +1,8 @@
 //! The shared desk: one machine that many threads call, each at its place in one legal history.
 //!
 //! A `Desk` holds a machine and the journal of the calls that it took; a `Seat` is one caller.
-//! Under it stands a ticket lock: a call draws a ticket, waits for its turn, steps the machine and
-//! serves the next ticket. A call copies no history. Nothing here says how long a call waits.
+//! Under it stands a ticket lock: a call waits until no other one is served, draws a ticket, steps the
+//! machine and serves the next ticket. A call copies no history. Nothing here says how long a call waits.
 #![tactic(auto)]
 
 mod answer;
@@ -11,6 +11,7 @@ mod entry;
 mod journal;
 mod logged;
 mod rule;
+mod sleepers;
 mod ticket_lock;
 
 pub use answer::{CallFault, Closed, Receipt};

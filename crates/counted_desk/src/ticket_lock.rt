@@ -1,5 +1,9 @@
 //! The ticket lock of a desk: two words, and the one value behind them.
-ghost use Rattle.std.specs.Prelude.{◌≡◌, ℕ, ◌<◌, [], ◌∷◌, ◌≤◌, Some, None, IfOk, IfSome};
+//!
+//! A ticket is drawn only where all that were drawn before were served, so that its turn is at once, and
+//! a thread that waits has none. So a thread that runs needn't wait for one that sleeps, and calls are
+//! served in the order in which they drew, which may not be the one in which they came.
+ghost use Rattle.std.specs.Prelude.{◌≡◌, ℕ, ◌<◌, ◌+◌, ◌^◌, [], ◌∷◌, ◌≤◌, Some, None, IfOk, IfSome};
 ghost use Rattle.counted_desk.specs.History.{IsLegal, Begins, IsOwnOf, log_of};
 ghost use Rattle.counted_desk.specs.Rule.{Took, HasTurn, IsDue, IsAtEnd, drawn, at_turn, after_turn, copied, joined, newcomer};
 ghost use Rattle.counted_desk.specs.declared.entry.Role.TheVariants.{Idle, Waiting, Turn};
@@ -7,10 +11,12 @@ ghost use Rattle.counted_desk.specs.declared.entry.Role.TheVariants.{Idle, Waiti
 use crate::entry::View;
 use crate::logged::Logged;
 use crate::rule::{Compare, CopySeat, DeskRule, Draw, JoinSeats, Leave, Look};
+use crate::sleepers::Sleepers;
 use atomic_table::{Refused, Table};
 use pgw_frames::NoMemory;
 use proxy_outside::Machine;
 use std::alloc::Global;
+use std::hint::spin_loop;
 use std::sync::Wait;
 use std::thread;
 
@@ -20,8 +26,8 @@ const TICKET: usize = 0;
 // The word with the ticket whose turn it is.
 const SERVING: usize = 1;
 
-// How often a waiting thread lets others run before it sleeps.
-const YIELDS: u32 = 16;
+// How often a waiting thread looks before it sleeps.
+const LOOKS: u32 = 100;
 
 pub type LockSeat<M> = atomic_table::Seat<
     Option<Logged<M, <M as Machine>::Command>>,
@@ -40,6 +46,7 @@ pub type LockTable<M> = Table<
 pub struct TicketLock<M: Machine> {
     pub table: LockTable<M>,
     pub most: u32,
+    sleepers: Sleepers,
     ghost sized: { (table.shared.table_id.words ≡ 2) × (table.shared.table_id.slots ≡ 1) },
     ghost keyed: { table.shared.key ≡ most },
 }
@@ -60,9 +67,47 @@ impl<M: Machine> TicketLock<M> {
             journal: Vec::new(alloc),
         }));
         match Table::new(alloc, &[0, 0], slots, &most) {
-            Ok((table, seat)) => Ok((TicketLock { table, most }, seat)),
+            Ok((table, seat)) => {
+                let sleepers = Sleepers::new();
+                Ok((
+                    TicketLock {
+                        table,
+                        most,
+                        sleepers,
+                    },
+                    seat,
+                ))
+            }
             Err(Refused { slots: _ }) => Err(NoMemory),
         }
+    }
+
+    // The next ticket, where its turn would be at once.
+    fn vacancy(&self) -> Option<u64>
+        ensures { IfSome result (λ n. n + 1 < 2 ^ 64) }
+    {
+        let shared = &self.table.shared;
+        let served = shared.peek(SERVING);
+        if served < u64::MAX && served == shared.peek(TICKET) {
+            return Some(served);
+        }
+        None
+    }
+
+    // Looks for a while, and then sleeps until a call ends. Says whether it slept.
+    fn wait_vacancy<R: Wait>(&self, rt: &R) -> bool {
+        for _ in 0..LOOKS {
+            if self.vacancy().is_some() {
+                return false;
+            }
+            spin_loop();
+        }
+        self.sleepers.announce();
+        if self.vacancy().is_some() {
+            return false;
+        }
+        self.sleepers.sleep(rt);
+        true
     }
 
     // A ticket that no other call has.
@@ -73,22 +118,25 @@ impl<M: Machine> TicketLock<M> {
         ensures drawn { seat.new.me ≡ (drawn seat.old.me.0 result, seat.old.me.1) }
     {
         let shared = &self.table.shared;
-        let mut next = shared.peek(TICKET);
+        let mut has_slept = false;
         for _ in rt.forever() {
-            if next < u64::MAX {
+            if let Some(next) = self.vacancy() {
+                if has_slept {
+                    self.sleepers.announce();
+                }
                 let found = shared.compare_exchange::<Draw<M>>(seat, TICKET, next, next + 1);
                 if found == next {
                     return next;
                 }
-                next = found;
-            } else {
-                next = shared.peek(TICKET);
+            }
+            if self.wait_vacancy(rt) {
+                has_slept = true;
             }
         }
         unreachable!()
     }
 
-    // Goes on once the ticket is served.
+    // Goes on once the ticket is served, which it is at once.
     fn wait_turn<R: Wait>(&self, rt: &R, seat: &mut LockSeat<M>, ticket: u64)
         requires here { seat.old.table_id ≡ self.now.table.shared.table_id }
         requires waiting { seat.old.me.0.role ≡ Waiting ticket }
@@ -96,18 +144,12 @@ impl<M: Machine> TicketLock<M> {
         ensures took { HasTurn M.stands_for M.rules ticket seat.old.me seat.new.me }
     {
         let shared = &self.table.shared;
-        let mut yields = YIELDS;
         for _ in rt.forever() {
             let served = shared.load::<Look<M>>(seat, SERVING);
             if served == ticket {
                 return;
             }
-            if yields > 0 {
-                yields -= 1;
-                thread::yield_now();
-            } else {
-                shared.park(rt, SERVING, (served % (1 << 32)) as u32);
-            }
+            thread::yield_now();
         }
         unreachable!()
     }
@@ -127,7 +169,7 @@ impl<M: Machine> TicketLock<M> {
         (ticket, value.unwrap())
     }
 
-    /// Gives the value back and serves the next ticket. It wakes others only where one was drawn.
+    /// Gives the value back and serves the next ticket. It wakes a thread where some may sleep.
     pub fn leave(&self, seat: &mut LockSeat<M>, logged: Logged<M, M::Command>)
         requires here { seat.old.table_id ≡ self.now.table.shared.table_id }
         requires out { seat.old.me.1 ≡ (0, None) ∷ [] }
@@ -139,10 +181,8 @@ impl<M: Machine> TicketLock<M> {
         let shared = &self.table.shared;
         let out = shared.exchange(seat, 0, Some(logged));
         let None = out else { unreachable!() };
-        let served = shared.fetch_add::<Leave<M>>(seat, SERVING, 1);
-        if shared.peek(TICKET) > served.wrapping_add(1) {
-            shared.wake_all(SERVING);
-        }
+        shared.fetch_add::<Leave<M>>(seat, SERVING, 1);
+        self.sleepers.wake_one();
     }
 
     /// A second seat, which has seen what the first one has.
@@ -177,7 +217,11 @@ impl<M: Machine> TicketLock<M> {
         requires { seat.table_id ≡ self.table.shared.table_id }
         ensures { IfSome result (IsAtEnd M.stands_for M.rules seat.me.0 self.most) }
     {
-        let TicketLock { table, most: _ } = self;
+        let TicketLock {
+            table,
+            most: _,
+            sleepers: _,
+        } = self;
         let mut closed = table.close_with(seat);
         let drawn = closed.word(TICKET);
         let served = closed.word(SERVING);

@@ -5,8 +5,8 @@ use Rattle.counted_desk.specs.Rule.{IsKept, left}
 use Rattle.counted_desk.proofs.Keeps.{leaves}
 use Rattle.counted_desk.proofs.ticket_lock.TicketLock.leave.Goals as goal
 
-pub fetch_add-served-requires : goal.fetch_add-served-requires
-fetch_add-served-requires g c =
+pub fetch_add-requires : goal.fetch_add-requires
+fetch_add-requires g c =
     let m = g.M.Machine in
     let z = c.args.self.now.sized.0 in
     let d = c.requires.due in
