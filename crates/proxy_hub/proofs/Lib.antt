@@ -1,0 +1,7 @@
+pub mod Admitting
+pub mod Assigning
+pub mod Behind
+pub mod Opening
+pub mod Planning
+pub mod Suiting
+pub mod Members

@@ -1,0 +1,6 @@
+pub mod States
+pub mod Steps
+pub mod Loads
+pub mod Hubs
+pub mod Ports
+pub mod Kinds

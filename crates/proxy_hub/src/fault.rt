@@ -1,0 +1,22 @@
+//! Why a port gives no reply.
+
+use std::fmt;
+
+/// A port took the command nowhere, and nothing changed.
+#[derive(Clone, Copy, Debug, PartialEq, Eq)]
+pub enum HubFault {
+    NoMemory,
+    /// The desk behind the port takes so many commands at most, and has taken them.
+    JournalFull(u32),
+}
+
+impl fmt::Display for HubFault {
+    fn fmt<W: fmt::Write>(&self, f: &mut fmt::Formatter<W>) -> fmt::Result {
+        match self {
+            HubFault::NoMemory => write!(f, "no memory"),
+            HubFault::JournalFull(most) => write!(f, "journal full: {most}"),
+        }
+    }
+}
+
+impl std::error::Error for HubFault {}
