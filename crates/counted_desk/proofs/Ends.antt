@@ -17,7 +17,7 @@ use Rattle.counted_desk.specs.History.{entry, call, Call, log_of, state_of, Repl
 use Rattle.atomic_table.specs.Seated.{TableId}
 use Rattle.counted_desk.specs.Calls.{FaultAt, Adds, AddsNot, Made, Missed}
 use Rattle.counted_desk.specs.Seats.{Sight, sight, IsAtRest}
-use Rattle.counted_desk.specs.Rule.{total, has_turn, at_turn, after_turn, IsAtEnd, IsWhole, IsDue, Knows, IsKept, Took}
+use Rattle.counted_desk.specs.Rule.{total, has_turn, at_turn, after_turn, IsAtEnd, IsWhole, IsDue, Knows, IsKept, Took, Held}
 use Rattle.counted_desk.proofs.Totals.{total_zero, rises_weaken, rises_push, times_above, drop_front, history-append, history-length, history-replies}
 
 fault_full : (most n : ℕ) (e : CallFault) → FaultAt most n e → n ≤ most
@@ -29,7 +29,7 @@ module _ {M C R S : Type 0} (stands : M → S → Type 0) (rules : Rules S C R) 
   V = View C R
 
   abbrev H : Type 0
-  H = Option (Logged M C)
+  H = Option (Held M C)
 
   abbrev Log : List (Call C) → List (Entry C R)
   Log = log_of rules
@@ -130,7 +130,7 @@ module _ {M C R S : Type 0} (stands : M → S → Type 0) (rules : Rules S C R) 
   no_turn ticket serving log (Turn n) seen e k = let z = k.1 in absurd (omega arith)
 
   pub closes : (most id : ℕ) (v : V) (ws : List ℕ) (xs : List H) (a b : ℕ) (h : H) → Final (Seen (IsKept stands rules most) id v) ws xs → get_elem? ws 0 ≡ some a → get_elem? ws 1 ≡ some b → a ≡ b → get_elem? xs 0 ≡ some h
-      → (y : Logged M C) × (h ≡ Some y) × IsWhole stands rules y × Begins v.seen (Log y.journal.items) × IsLegalBelow rules b (Log y.journal.items) × (length (Log y.journal.items) ≤ most)
+      → (y : Held M C) × (h ≡ Some y) × IsWhole stands rules y.value × Begins v.seen (Log y.value.journal.items) × IsLegalBelow rules b (Log y.value.journal.items) × (length (Log y.value.journal.items) ≤ most)
   closes most id v ws xs a b h f wa wb same at =
       let s = f.0 in
       let k = f.1.0 in
@@ -138,17 +138,17 @@ module _ {M C R S : Type 0} (stands : M → S → Type 0) (rules : Rules S C R) 
       let ta : k.ticket ≡ a = some-injective _ _ (sym (ap (λ l. get_elem? l 0) words) ∙ wa) in
       let sb : k.serving ≡ b = some-injective _ _ (sym (ap (λ l. get_elem? l 1) words) ∙ wb) in
       ⊎_elim
-      (λ (z : (y : Logged M C) × (s.homes ≡ some (Some y) ∷ []) × (y.journal.items ≡ k.calls) × IsWhole stands rules y × (total (λ (u : V). has_turn u.role) s.views ≡ 0)).
+      (λ (z : (y : Held M C) × (s.homes ≡ some (Some y) ∷ []) × (y.value.journal.items ≡ k.calls) × IsWhole stands rules y.value × (total (λ (u : V). has_turn u.role) s.views ≡ 0)).
       let y = z.0 in
       let there = f.4 0 (Some y) (ap (λ hs. get_elem? hs 0) z.1) in
-      let log : Log y.journal.items ≡ Log k.calls = ap Log z.2 in
+      let log : Log y.value.journal.items ≡ Log k.calls = ap Log z.2 in
       let long : length (Log k.calls) ≡ length k.calls = history-length rules rules.first k.calls in
       let r = k.room in (
         y,
         some-injective _ _ (sym at ∙ there),
         z.3,
         subst (Begins v.seen) (sym log) (k.each id v f.1.1).begins,
-        record { replies = history-replies rules rules.first y.journal.items; rises = subst (λ l. Rises 0 l b) (sym log) (subst (Rises 0 (Log k.calls)) sb k.rising) },
+        record { replies = history-replies rules rules.first y.value.journal.items; rises = subst (λ l. Rises 0 l b) (sym log) (subst (Rises 0 (Log k.calls)) sb k.rising) },
         subst (λ l. length l ≤ most) (sym log) (omega arith),
       ))
       (λ (z : (s.homes ≡ none ∷ []) × (total (λ (u : V). has_turn u.role) s.views ≡ 1)).
@@ -158,9 +158,9 @@ module _ {M C R S : Type 0} (stands : M → S → Type 0) (rules : Rules S C R) 
       k.home
 
   pub shuts : (key most id : ℕ) (v : V) (ws : List ℕ) (xs : List H) (a b : ℕ) (h : H) → key ≡ most → Final (Seen (IsKept stands rules key) id v) ws xs → get_elem? ws 0 ≡ some a → get_elem? ws 1 ≡ some b → a ≡ b → get_elem? xs 0 ≡ some h
-      → IfSome h (IsAtEnd stands rules v most)
+      → IfSome h (λ (y : Held M C). IsAtEnd stands rules v most y.value)
   shuts key most id v ws xs a b h keyed f wa wb same at =
       let k = closes key id v ws xs a b h f wa wb same at in
-      let long : length (Log k.0.journal.items) ≡ length k.0.journal.items = history-length rules rules.first k.0.journal.items in
-      let less : length k.0.journal.items ≤ most = let z = k.5 in omega arith in
-      subst (λ (x : H). IfSome x (IsAtEnd stands rules v most)) (sym k.1) (record { whole = k.2; begins = k.3; legal = (b, k.4); room = less })
+      let long : length (Log k.0.value.journal.items) ≡ length k.0.value.journal.items = history-length rules rules.first k.0.value.journal.items in
+      let less : length k.0.value.journal.items ≤ most = let z = k.5 in omega arith in
+      subst (λ (x : H). IfSome x (λ (y : Held M C). IsAtEnd stands rules v most y.value)) (sym k.1) (record { whole = k.2; begins = k.3; legal = (b, k.4); room = less })

@@ -10,13 +10,12 @@ use lib.ListN.{get_elem?}
 use Rattle.atomic_table.specs.Table.{State, Me, step, Act, keeps, takes, gives, Valid, carried_after, homes_after, Allows, Splits, Joins, opening}
 use Rattle.atomic_table.proofs.Lists.{at_set, at_snoc, set_again, exchanged}
 use Rattle.counted_desk.specs.declared.entry.Entry.{Entry}
-use Rattle.counted_desk.specs.declared.logged.Logged.{Logged}
 use Rattle.counted_desk.specs.declared.entry.Role.{Role}
 use Rattle.counted_desk.specs.declared.entry.Role.TheVariants.{Spent, Idle, Waiting, Turn}
 use Rattle.counted_desk.specs.declared.entry.View.{View}
 use Rattle.proxy_outside.specs.Rules.{Rules}
 use Rattle.counted_desk.specs.History.{log_of, state_of, Rises, times, Begins, Within, one_if, Call}
-use Rattle.counted_desk.specs.Rule.{total, has, has_any, has_turn, newcomer, spent, drawn, at_turn, after_turn, copied, joined, Knows, Fits, Home, IsWhole, IsDue, IsKept, Took, drew, looked, left, compared}
+use Rattle.counted_desk.specs.Rule.{total, has, has_any, has_turn, newcomer, spent, drawn, at_turn, after_turn, copied, joined, Knows, Fits, Home, IsWhole, IsDue, IsKept, Took, drew, looked, left, compared, Held}
 use Rattle.counted_desk.proofs.Totals.{total_set, total_append, total_one, total_two, total_below, total_zero, each_set, set_at, begins_same, begins_none, begins_more, begins_shorter, within_more, within_append, drop_front, has_last, times_append, times_none}
 
 has_here : (n : ℕ) → one_if (eqb n n) ≡ 1
@@ -43,7 +42,7 @@ module _ {M C R S : Type 0} (stands : M → S → Type 0) (rules : Rules S C R) 
   V = View C R
 
   abbrev H : Type 0
-  H = Option (Logged M C)
+  H = Option (Held M C)
 
   abbrev K : ℕ → State H V → Type 0
   K = IsKept stands rules
@@ -139,7 +138,7 @@ module _ {M C R S : Type 0} (stands : M → S → Type 0) (rules : Rules S C R) 
 
   -- the one whose ticket is served finds the value at home
   at_home : (most : ℕ) (s : State H V) (k : K most s) (id : ℕ) (v : V) → get_elem? s.views id ≡ some v → v.role ≡ Waiting k.serving
-      → (y : Logged M C) × (s.homes ≡ some (Some y) ∷ []) × (y.journal.items ≡ k.calls) × IsWhole stands rules y × (total (λ (u : V). has_turn u.role) s.views ≡ 0)
+      → (y : Held M C) × (s.homes ≡ some (Some y) ∷ []) × (y.value.journal.items ≡ k.calls) × IsWhole stands rules y.value × (total (λ (u : V). has_turn u.role) s.views ≡ 0)
   at_home most s k id v at is =
       ⊎_elim (λ h. h)
       (λ (h : (s.homes ≡ none ∷ []) × (total (λ (u : V). has_turn u.role) s.views ≡ 1)).
@@ -148,11 +147,11 @@ module _ {M C R S : Type 0} (stands : M → S → Type 0) (rules : Rules S C R) 
       let d = k.differ k.serving in let one = h.1 in absurd (omega arith))
       k.home
 
-  takes_here : (most : ℕ) (s : State H V) (k : K most s) (id : ℕ) (v : V) (y : Logged M C) → get_elem? s.views id ≡ some v → v.role ≡ Waiting k.serving → s.homes ≡ some (Some y) ∷ [] → y.journal.items ≡ k.calls
+  takes_here : (most : ℕ) (s : State H V) (k : K most s) (id : ℕ) (v : V) (y : Held M C) → get_elem? s.views id ≡ some v → v.role ≡ Waiting k.serving → s.homes ≡ some (Some y) ∷ [] → y.value.journal.items ≡ k.calls
       → total (λ (u : V). has_turn u.role) s.views ≡ 0
-      → K most record { words = k.ticket ∷ k.serving ∷ []; homes = set s.homes 0 none; views = set s.views id (at_turn v k.serving (Log y.journal.items)) }
+      → K most record { words = k.ticket ∷ k.serving ∷ []; homes = set s.homes 0 none; views = set s.views id (at_turn v k.serving (Log y.value.journal.items)) }
   takes_here most s k id v y at is home items turns =
-      let w = at_turn v k.serving (Log y.journal.items) in
+      let w = at_turn v k.serving (Log y.value.journal.items) in
       let e = k.each id v at in
       let kn : Knows stands rules k.ticket k.serving (Log k.calls) (Waiting k.serving) v.seen = subst (λ r. Knows stands rules k.ticket k.serving (Log k.calls) r v.seen) is e.knows in
       let ta : has_any v.role ≡ 1 = ap has_any is in
@@ -160,12 +159,12 @@ module _ {M C R S : Type 0} (stands : M → S → Type 0) (rules : Rules S C R) 
       let ha : has_turn v.role ≡ 0 = ap has_turn is in
       let hs = total_set (λ (u : V). has_turn u.role) s.views id v w at in
       let c : total (λ (u : V). has_any u.role) s.views + k.serving ≡ k.ticket = k.counted in
-      let log : Log y.journal.items ≡ Log k.calls = ap Log items in
+      let log : Log y.value.journal.items ≡ Log k.calls = ap Log items in
       let lt : k.serving < k.ticket = kn.1 in
-      let begins : Begins v.seen (Log y.journal.items) = subst (Begins v.seen) (sym log) e.begins in record {
+      let begins : Begins v.seen (Log y.value.journal.items) = subst (Begins v.seen) (sym log) e.begins in record {
         ticket = k.ticket;
         serving = k.serving;
-        calls = y.journal.items;
+        calls = y.value.journal.items;
         words_are = refl;
         ordered = k.ordered;
         bounded = k.bounded;
@@ -178,8 +177,8 @@ module _ {M C R S : Type 0} (stands : M → S → Type 0) (rules : Rules S C R) 
         home = inr (ap (λ hs. set hs 0 none) home, omega arith);
         rising = subst (λ l. Rises 0 l k.serving) (sym log) k.rising;
         room = subst (λ (l : List (Call C)). length l ≤ most) (sym items) k.room;
-        each = each_set (F most k.ticket k.serving (Log y.journal.items)) s.views id w
-            (record { knows = (refl, lt, refl); begins = begins_same (Log y.journal.items); met = subst (Begins v.met) (sym log) e.met; within = within_more v.own v.seen (Log y.journal.items) begins e.within; same_most = λ _. e.same_most (λ q. absurd (let r : Waiting k.serving ≡ Spent = sym is ∙ q in cc)); empty = λ (q : Turn k.serving ≡ Spent). absurd cc })
+        each = each_set (F most k.ticket k.serving (Log y.value.journal.items)) s.views id w
+            (record { knows = (refl, lt, refl); begins = begins_same (Log y.value.journal.items); met = subst (Begins v.met) (sym log) e.met; within = within_more v.own v.seen (Log y.value.journal.items) begins e.within; same_most = λ _. e.same_most (λ q. absurd (let r : Waiting k.serving ≡ Spent = sym is ∙ q in cc)); empty = λ (q : Turn k.serving ≡ Spent). absurd cc })
             (λ j u _ d. subst (λ l. F most k.ticket k.serving l u) (sym log) (k.each j u d));
         once = λ t. let x = total_set (λ (u : V). times t u.own) s.views id v w at in let z = k.once t in omega arith;
       }
@@ -195,13 +194,13 @@ module _ {M C R S : Type 0} (stands : M → S → Type 0) (rules : Rules S C R) 
       let now : v.role ≡ Waiting k.serving = is ∙ ap Waiting (sym e) in
       let h = at_home most s k id v at now in
       let y = h.0 in
-      let log : Log y.journal.items ≡ Log k.calls = ap Log h.2 in
+      let log : Log y.value.journal.items ≡ Log k.calls = ap Log h.2 in
       let f = k.each id v at in
       let same : v.most ≡ most = f.same_most (λ q. absurd (let r : Waiting k.serving ≡ Spent = sym now ∙ q in cc)) in
-      let room : length y.journal.items ≤ most = subst (λ (l : List (Call C)). length l ≤ most) (sym h.2) k.room in
-      let took : Took stands rules k.serving v y = record { whole = h.3; begins = subst (Begins v.seen) (sym log) f.begins; rising = subst (λ l. Rises 0 l k.serving) (sym log) k.rising; room = omega arith } in
-      let w : Me H V = (at_turn v k.serving (Log y.journal.items), (0, Some y) ∷ cs) in
-      let P : ℕ → Type 0 = λ m. (k.serving ≡ m → (x : Logged M C) × Took stands rules m v x × (w ≡ (at_turn v m (Log x.journal.items), (0, Some x) ∷ cs))) × (k.serving ≢ m → w ≡ (v, cs)) in
+      let room : length y.value.journal.items ≤ most = subst (λ (l : List (Call C)). length l ≤ most) (sym h.2) k.room in
+      let took : Took stands rules k.serving v y.value = record { whole = h.3; begins = subst (Begins v.seen) (sym log) f.begins; rising = subst (λ l. Rises 0 l k.serving) (sym log) k.rising; room = omega arith } in
+      let w : Me H V = (at_turn v k.serving (Log y.value.journal.items), (0, Some y) ∷ cs) in
+      let P : ℕ → Type 0 = λ m. (k.serving ≡ m → (x : Held M C) × Took stands rules m v x.value × (w ≡ (at_turn v m (Log x.value.journal.items), (0, Some x) ∷ cs))) × (k.serving ≢ m → w ≡ (v, cs)) in
       let p : P k.serving = ((λ _. (y, took, refl)), (λ ne. absurd (ne refl))) in (
         w.0,
         takes 0 (Some y),
@@ -236,10 +235,10 @@ module _ {M C R S : Type 0} (stands : M → S → Type 0) (rules : Rules S C R) 
       ((let h = has_most z.0.ticket t in omega arith), (λ ne. let h = has_not z.0.ticket t (λ e. ne (sym e ∙ z.2)) in omega arith)))
       one
 
-  leaves_here : (most : ℕ) (s : State H V) (k : K most s) (id : ℕ) (v : V) (y : Logged M C) (n : ℕ) (added : List (Entry C R)) → get_elem? s.views id ≡ some v → IsDue stands rules n v y added
-      → K most record { words = k.ticket ∷ (k.serving + 1) ∷ []; homes = set s.homes 0 (some (Some y)); views = set s.views id (after_turn v (Log y.journal.items)) }
+  leaves_here : (most : ℕ) (s : State H V) (k : K most s) (id : ℕ) (v : V) (y : Held M C) (n : ℕ) (added : List (Entry C R)) → get_elem? s.views id ≡ some v → IsDue stands rules n v y.value added
+      → K most record { words = k.ticket ∷ (k.serving + 1) ∷ []; homes = set s.homes 0 (some (Some y)); views = set s.views id (after_turn v (Log y.value.journal.items)) }
   leaves_here most s k id v y n added at due =
-      let log' = Log y.journal.items in
+      let log' = Log y.value.journal.items in
       let w = after_turn v log' in
       let e = k.each id v at in
       let kn : Knows stands rules k.ticket k.serving (Log k.calls) (Turn n) v.seen = subst (λ r. Knows stands rules k.ticket k.serving (Log k.calls) r v.seen) due.turn e.knows in
@@ -263,7 +262,7 @@ module _ {M C R S : Type 0} (stands : M → S → Type 0) (rules : Rules S C R) 
       let own_in : Within v.own (Log k.calls) = within_more v.own v.seen (Log k.calls) e.begins e.within in record {
         ticket = k.ticket;
         serving = k.serving + 1;
-        calls = y.journal.items;
+        calls = y.value.journal.items;
         words_are = refl;
         ordered = omega arith;
         bounded = k.bounded;
@@ -273,7 +272,7 @@ module _ {M C R S : Type 0} (stands : M → S → Type 0) (rules : Rules S C R) 
             let z = k.differ t in
             omega arith;
         home = ⊎_elim
-            (λ (h : (x : Logged M C) × (s.homes ≡ some (Some x) ∷ []) × (x.journal.items ≡ k.calls) × IsWhole stands rules x × (total (λ (u : V). has_turn u.role) s.views ≡ 0)). let z = h.4 in absurd (omega arith))
+            (λ (h : (x : Held M C) × (s.homes ≡ some (Some x) ∷ []) × (x.value.journal.items ≡ k.calls) × IsWhole stands rules x.value × (total (λ (u : V). has_turn u.role) s.views ≡ 0)). let z = h.4 in absurd (omega arith))
             (λ (h : (s.homes ≡ none ∷ []) × (total (λ (u : V). has_turn u.role) s.views ≡ 1)). let z = h.1 in inl (y, ap (λ hs. set hs 0 (some (Some y))) h.0, refl, due.whole, omega arith))
             k.home;
         rising = subst (λ l. Rises 0 l (k.serving + 1)) (sym due.log_is) (subst (λ m. Rises 0 (v.seen ++ added) (m + 1)) n_is due.rising);
@@ -306,13 +305,13 @@ module _ {M C R S : Type 0} (stands : M → S → Type 0) (rules : Rules S C R) 
             (λ (ne : t ≢ n). let r = q.1 ne in omega arith);
       }
 
-  out_same : (y y' : Logged M C) → ◌≡◌ {A = List (ℕ × H)} ((0, Some y) ∷ []) ((0, Some y') ∷ []) → y ≡ y'
+  out_same : (y y' : Held M C) → ◌≡◌ {A = List (ℕ × H)} ((0, Some y) ∷ []) ((0, Some y') ∷ []) → y ≡ y'
   out_same y y' is =
       let p : ◌≡◌ {A = ℕ × H} (0, Some y) (0, Some y') = cc in
       let q : ◌≡◌ {A = H} (Some y) (Some y') = ap (λ (x : ℕ × H). x.1) p in
       cc
 
-  pub leaves : (most slots id : ℕ) (v : V) (y : Logged M C) (n : ℕ) (added : List (Entry C R)) → IsDue stands rules n v y added
+  pub leaves : (most slots id : ℕ) (v : V) (y : Held M C) (n : ℕ) (added : List (Entry C R)) → IsDue stands rules n v y.value added
       → Allows (K most) slots id (v, (0, Some y) ∷ []) 1 (λ r. (r + 1) % 2 ^ 64) (left stands rules (step slots 1 1 0 none) (v, (0, Some y) ∷ []))
   leaves most slots id v y n added due s k len at lt =
       let cs : List (ℕ × H) = (0, Some y) ∷ [] in
@@ -324,16 +323,16 @@ module _ {M C R S : Type 0} (stands : M → S → Type 0) (rules : Rules S C R) 
       let bound = k.bounded in
       let small : (k.serving + 1) % 2 ^ 64 ≡ k.serving + 1 = omega arith in
       subst G (sym k.words_are) (
-        after_turn v (Log y.journal.items),
+        after_turn v (Log y.value.journal.items),
         gives,
         tt,
-        subst (λ m. K most record { words = k.ticket ∷ m ∷ []; homes = set s.homes 0 (some (Some y)); views = set s.views id (after_turn v (Log y.journal.items)) }) (sym small) (leaves_here most s k id v y n added at due),
+        subst (λ m. K most record { words = k.ticket ∷ m ∷ []; homes = set s.homes 0 (some (Some y)); views = set s.views id (after_turn v (Log y.value.journal.items)) }) (sym small) (leaves_here most s k id v y n added at due),
         (let k' = leaves_here most s k id v y n added at due in
-            let w = after_turn v (Log y.journal.items) in
+            let w = after_turn v (Log y.value.journal.items) in
             let here = set_at s.views id v w at in
             λ y' is.
             let same : y ≡ y' = out_same y y' is in (
-              ap (λ (x : Logged M C). (after_turn v (Log x.journal.items), [])) same,
+              ap (λ (x : Held M C). (after_turn v (Log x.value.journal.items), [])) same,
               record { within = (k'.each id w here).within; once = λ t. let x = total_one (λ (u : V). times t u.own) (set s.views id w) id w here in let z = k'.once t in omega arith },
             )),
       )
@@ -424,9 +423,9 @@ module _ {M C R S : Type 0} (stands : M → S → Type 0) (rules : Rules S C R) 
       let e = k.each id v at in
       subst G (sym k.words_are) (v, keeps, tt, stays most s k id v at, (refl, begins_shorter v.met v.seen (Log k.calls) e.met e.begins, record { within = e.within; once = λ t. let x = total_one (λ (u : V). times t u.own) s.views id v at in let z = k.once t in omega arith }))
 
-  pub starts : (most : ℕ) (y : Logged M C) → stands y.machine rules.first → y.journal.items ≡ [] → K most (opening (0 ∷ 0 ∷ []) (Some y ∷ []) (newcomer most []))
+  pub starts : (most : ℕ) (y : Held M C) → stands y.value.machine rules.first → y.value.journal.items ≡ [] → K most (opening (0 ∷ 0 ∷ []) (Some y ∷ []) (newcomer most []))
   starts most y stands_first empty =
-      let log : Log y.journal.items ≡ [] = ap Log empty in record {
+      let log : Log y.value.journal.items ≡ [] = ap Log empty in record {
         ticket = 0;
         serving = 0;
         calls = [];
@@ -435,7 +434,7 @@ module _ {M C R S : Type 0} (stands : M → S → Type 0) (rules : Rules S C R) 
         bounded = omega arith;
         counted = refl;
         differ = λ t. omega arith;
-        home = inl (y, refl, empty, subst (λ l. stands y.machine (state_of rules l)) (sym empty) stands_first, refl);
+        home = inl (y, refl, empty, subst (λ l. stands y.value.machine (state_of rules l)) (sym empty) stands_first, refl);
         rising = omega arith;
         room = omega arith;
         each = one;

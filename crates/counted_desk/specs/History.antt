@@ -62,6 +62,18 @@ module _ {S C R : Type 0} (rules : Rules S C R) where
   abbrev pub IsLegal : List (Entry C R) → Type 0
   IsLegal history = (bound : ℕ) × IsLegalBelow bound history
 
+  -- where the machine stands behind these entries, from this state on
+  abbrev pub behind : S → List (Entry C R) → S
+  behind s [] = s
+  behind s (e ∷ es) = behind (rules.next s e.command) es
+
+  -- the call stands in the history, and its reply is the machine's behind the entries before it
+  pub record IsAnsweredIn (history : List (Entry C R)) (e : Entry C R) : Type 0 where
+    pub before : List (Entry C R)
+    pub after : List (Entry C R)
+    pub place : history ≡ before ++ e ∷ after
+    pub reply : e.reply ≡ rules.reply (behind rules.first before) e.command
+
   -- the history of calls, with the replies of one machine that is run over them from this state
   abbrev pub history_from : S → List (Call C) → List (Entry C R)
   history_from s [] = []

@@ -1,7 +1,8 @@
 -- The rule of the desk's table, and what each step tells.
-use Rattle.std.specs.Prelude.{◌≡◌, ◌≢◌, ◌⊎◌, ℕ, ◌+◌, ◌≤◌, ◌<◌, ◌^◌, ◌==◌, cond, leb, List, [], ◌∷◌, ◌++◌, length, drop, Option, Some}
+use Rattle.std.specs.Prelude.{◌≡◌, ◌≢◌, ◌⊎◌, ℕ, ◌+◌, ◌≤◌, ◌<◌, ◌^◌, ◌==◌, cond, leb, List, [], ◌∷◌, ◌++◌, length, drop, Option, Some, Box}
 use mathlib.Core.Option as maybe
 use lib.ListN.{get_elem?}
+use Rattle.std.specs.declared.alloc.Global.{Global}
 use Rattle.atomic_table.specs.Table.{State, Me, Step}
 use Rattle.proxy_outside.specs.Rules.{Rules}
 use Rattle.counted_desk.specs.declared.entry.Entry.{Entry}
@@ -32,6 +33,10 @@ has_any _ = 0
 abbrev pub has_turn : Role → ℕ
 has_turn (Turn n) = 1
 has_turn _ = 0
+
+-- the value of the slot
+abbrev pub Held : Type 0 → Type 0 → Type 0
+Held M C = Box (Logged M C) Global
 
 module _ {C R : Type 0} where
   abbrev pub newcomer : ℕ → List (Entry C R) → View C R
@@ -70,7 +75,7 @@ module _ {M C R S : Type 0} (stands : M → S → Type 0) (rules : Rules S C R) 
   V = View C R
 
   abbrev pub H : Type 0
-  H = Option (Logged M C)
+  H = Option (Held M C)
 
   -- the machine stands for the state after the journal
   abbrev pub IsWhole : Logged M C → Type 0
@@ -79,7 +84,7 @@ module _ {M C R S : Type 0} (stands : M → S → Type 0) (rules : Rules S C R) 
   -- where the one value is
   abbrev pub Home : List (maybe.Option H) → List (Call C) → ℕ → Type 0
   Home homes calls turns =
-      ((y : Logged M C) × (homes ≡ maybe.some (Some y) ∷ []) × (y.journal.items ≡ calls) × IsWhole y × (turns ≡ 0))
+      ((y : Held M C) × (homes ≡ maybe.some (Some y) ∷ []) × (y.value.journal.items ≡ calls) × IsWhole y.value × (turns ≡ 0))
       ⊎ ((homes ≡ maybe.none ∷ []) × (turns ≡ 1))
 
   -- what the role of a view says
@@ -145,7 +150,7 @@ module _ {M C R S : Type 0} (stands : M → S → Type 0) (rules : Rules S C R) 
 
   -- the ticket is served: the seat sees the whole journal, and the value is out with it
   abbrev pub HasTurn : ℕ → Me H V → Me H V → Type 0
-  HasTurn n m w = (y : Logged M C) × Took n m.0 y × (w ≡ (at_turn m.0 n (log_of rules y.journal.items), (0, Some y) ∷ m.1))
+  HasTurn n m w = (y : Held M C) × Took n m.0 y.value × (w ≡ (at_turn m.0 n (log_of rules y.value.journal.items), (0, Some y) ∷ m.1))
 
   -- a load of the serving word
   abbrev pub looked : At → Me H V → ℕ → Me H V → Type 0
@@ -153,7 +158,7 @@ module _ {M C R S : Type 0} (stands : M → S → Type 0) (rules : Rules S C R) 
 
   -- the next ticket is served
   abbrev pub left : At → Me H V → ℕ → Me H V → Type 0
-  left st m r w = (y : Logged M C) → m.1 ≡ (0, Some y) ∷ [] → (w ≡ (after_turn m.0 (log_of rules y.journal.items), [])) × IsOwnOf w.0.own w.0.seen
+  left st m r w = (y : Held M C) → m.1 ≡ (0, Some y) ∷ [] → (w ≡ (after_turn m.0 (log_of rules y.value.journal.items), [])) × IsOwnOf w.0.own w.0.seen
 
   -- a load after a join
   abbrev pub compared : At → Me H V → ℕ → Me H V → Type 0

@@ -1,6 +1,7 @@
 //! The desk and its seats.
 ghost use Rattle.std.specs.Prelude.{◌≡◌, [], ◌++◌, ◌⊎◌, IfOk, IfErr};
-ghost use Rattle.counted_desk.specs.History.{IsLegal, Begins, IsOwnOf};
+ghost use Rattle.std.specs.List.{AllByRecursion};
+ghost use Rattle.counted_desk.specs.History.{IsLegal, Begins, IsOwnOf, IsAnsweredIn};
 
 use crate::answer::{CallFault, Closed, Receipt};
 use crate::journal::Journal;
@@ -9,6 +10,7 @@ use crate::ticket_lock::{LockSeat, TicketLock};
 use pgw_frames::NoMemory;
 use proxy_outside::Machine;
 use std::alloc::Global;
+use std::boxed::Box;
 use std::marker::Model;
 use std::sync::Wait;
 
@@ -45,10 +47,12 @@ impl<M: Machine> Model for Seat<M> {
 }
 
 impl<M: Machine> Seat<M> {
-    /// Says that what the seat has seen is legal, and that its own calls stand in it, each once.
+    /// Says that what the seat has seen is legal, that its own calls stand in it, each once, and that each of
+    /// them has the reply of the machine behind the calls before it.
     pub fn has_seen_a_legal_history(&self)
         ensures legal { IsLegal M.rules self.now.seen }
         ensures own { IsOwnOf self.now.own self.now.seen }
+        ensures answered { AllByRecursion (IsAnsweredIn M.rules self.now.seen) self.now.own }
     {
         let _lock_seat = &self.lock_seat;
     }
@@ -79,8 +83,8 @@ impl<M: Machine> Desk<M> {
         ensures ok { IfOk result (Made M.rules self.now.most seat.old seat.new command) }
         ensures err { IfErr result (Missed M.rules self.now.most seat.old seat.new) }
     {
-        let (ticket, logged) = self.lock.enter(rt, &mut seat.lock_seat);
-        let (logged, answer) = log_call(logged, self.lock.most, ticket, command);
+        let (ticket, mut logged) = self.lock.enter(rt, &mut seat.lock_seat);
+        let answer = log_call(&mut *logged, self.lock.most, ticket, command);
         self.lock.leave(&mut seat.lock_seat, logged);
         answer
     }
@@ -118,7 +122,10 @@ impl<M: Machine> Desk<M> {
         let Desk { lock } = self;
         let Seat { lock_seat } = seat;
         match lock.shut(lock_seat) {
-            Some(Logged { machine, journal }) => Closed::Whole(machine, Journal::of(journal)),
+            Some(logged) => {
+                let Logged { machine, journal } = Box::into_inner(logged);
+                Closed::Whole(machine, Journal::of(journal))
+            }
             None => Closed::Held,
         }
     }

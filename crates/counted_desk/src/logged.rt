@@ -5,6 +5,7 @@ ghost use Rattle.counted_desk.specs.Rule.{IsWhole};
 
 use crate::answer::{CallFault, Receipt};
 use proxy_outside::Machine;
+use std::boxed::Box;
 
 /// A machine, and the calls that brought it from its opening to where it stands.
 #[derive(Drop)]
@@ -13,39 +14,34 @@ pub struct Logged<M, C> {
     pub journal: Vec<(u64, C)>,
 }
 
-/// Steps the machine and adds the call to the journal, or gives both back as they stand. They go by value,
-/// so that a small machine needs no memory on the way.
+/// What stands in the slot, unless a call has it out. Only the box goes in and out, however large the machine.
+pub type Held<M> = Option<Box<Logged<M, <M as Machine>::Command>>>;
+
+/// Steps the machine and adds the call to the journal, or leaves both as they stand.
 pub fn log_call<M: Machine>(
-    logged: Logged<M, M::Command>,
+    logged: &mut Logged<M, M::Command>,
     most: u32,
     ticket: u64,
     command: M::Command,
-) -> (Logged<M, M::Command>, Result<Receipt<M::Reply>, CallFault>)
-    requires whole { IsWhole M.stands_for M.rules logged }
-    requires room { length logged.journal.items ≤ most }
-    ensures whole { IsWhole M.stands_for M.rules result.0 }
-    ensures ok { IfOk result.1 (Adds M.rules most ticket command logged result.0) }
-    ensures err { IfErr result.1 (AddsNot most logged result.0) }
+) -> Result<Receipt<M::Reply>, CallFault>
+    requires whole { IsWhole M.stands_for M.rules logged.old }
+    requires room { length logged.old.journal.items ≤ most }
+    ensures whole { IsWhole M.stands_for M.rules logged.new }
+    ensures ok { IfOk result (Adds M.rules most ticket command logged.old logged.new) }
+    ensures err { IfErr result (AddsNot most logged.old logged.new) }
 {
-    let Logged {
-        mut machine,
-        mut journal,
-    } = logged;
-    if journal.len() >= most as usize {
-        return (
-            Logged { machine, journal },
-            Err(CallFault::JournalFull(most)),
-        );
+    if logged.journal.len() >= most as usize {
+        return Err(CallFault::JournalFull(most));
     }
-    if journal.reserve(1).is_err() {
-        return (Logged { machine, journal }, Err(CallFault::NoMemory));
+    if logged.journal.reserve(1).is_err() {
+        return Err(CallFault::NoMemory);
     }
-    match machine.step(&command) {
+    match logged.machine.step(&command) {
         Ok(reply) => {
-            let place = journal.len() as u64;
-            journal.push_reserved((ticket, command));
-            (Logged { machine, journal }, Ok(Receipt { place, reply }))
+            let place = logged.journal.len() as u64;
+            logged.journal.push_reserved((ticket, command));
+            Ok(Receipt { place, reply })
         }
-        Err(_) => (Logged { machine, journal }, Err(CallFault::NoMemory)),
+        Err(_) => Err(CallFault::NoMemory),
     }
 }

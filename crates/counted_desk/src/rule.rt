@@ -2,7 +2,7 @@
 ghost use Rattle.counted_desk.specs.Rule.{IsKept, newcomer, drew, looked, left, compared, copied, joined, spent};
 
 use crate::entry::View;
-use crate::logged::Logged;
+use crate::logged::Held;
 use atomic_table::{Join, Play, Split, TableRule};
 use proxy_outside::Machine;
 use std::marker::PhantomData;
@@ -12,8 +12,7 @@ pub struct DeskRule<M> {
     machine: PhantomData<M>,
 }
 
-impl<M: Machine> TableRule<Option<Logged<M, M::Command>>, View<M::Command, M::Reply>, u32>
-    for DeskRule<M> {
+impl<M: Machine> TableRule<Held<M>, View<M::Command, M::Reply>, u32> for DeskRule<M> {
     ghost use Rattle.std.specs.Prelude.{[]};
 
     ghost holds = { IsKept M.stands_for M.rules };
@@ -26,7 +25,7 @@ pub(crate) struct Draw<M> {
     machine: PhantomData<M>,
 }
 
-impl<M: Machine> Play<Option<Logged<M, M::Command>>, View<M::Command, M::Reply>> for Draw<M> {
+impl<M: Machine> Play<Held<M>, View<M::Command, M::Reply>> for Draw<M> {
     ghost then = { drew M.stands_for M.rules };
 }
 
@@ -35,7 +34,7 @@ pub(crate) struct Look<M> {
     machine: PhantomData<M>,
 }
 
-impl<M: Machine> Play<Option<Logged<M, M::Command>>, View<M::Command, M::Reply>> for Look<M> {
+impl<M: Machine> Play<Held<M>, View<M::Command, M::Reply>> for Look<M> {
     ghost then = { looked M.stands_for M.rules };
 }
 
@@ -44,7 +43,7 @@ pub(crate) struct Leave<M> {
     machine: PhantomData<M>,
 }
 
-impl<M: Machine> Play<Option<Logged<M, M::Command>>, View<M::Command, M::Reply>> for Leave<M> {
+impl<M: Machine> Play<Held<M>, View<M::Command, M::Reply>> for Leave<M> {
     ghost then = { left M.stands_for M.rules };
 }
 
@@ -53,7 +52,7 @@ pub(crate) struct Compare<M> {
     machine: PhantomData<M>,
 }
 
-impl<M: Machine> Play<Option<Logged<M, M::Command>>, View<M::Command, M::Reply>> for Compare<M> {
+impl<M: Machine> Play<Held<M>, View<M::Command, M::Reply>> for Compare<M> {
     ghost then = { compared M.stands_for M.rules };
 }
 

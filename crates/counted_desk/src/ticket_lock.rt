@@ -1,21 +1,21 @@
 //! The ticket lock of a desk: two words, and the one value behind them.
 //!
-//! A ticket is drawn only where all that were drawn before were served, so that its turn is at once, and
-//! a thread that waits has none. So a thread that runs needn't wait for one that sleeps, and calls are
-//! served in the order in which they drew, which may not be the one in which they came.
+//! A ticket is drawn only where all that were drawn before were served, so that a thread that waits has
+//! none. Calls are served in the order in which they drew, which may not be the one in which they came.
 ghost use Rattle.std.specs.Prelude.{◌≡◌, ℕ, ◌<◌, ◌+◌, ◌^◌, [], ◌∷◌, ◌≤◌, Some, None, IfOk, IfSome};
 ghost use Rattle.counted_desk.specs.History.{IsLegal, Begins, IsOwnOf, log_of};
 ghost use Rattle.counted_desk.specs.Rule.{Took, HasTurn, IsDue, IsAtEnd, drawn, at_turn, after_turn, copied, joined, newcomer};
 ghost use Rattle.counted_desk.specs.declared.entry.Role.TheVariants.{Idle, Waiting, Turn};
 
 use crate::entry::View;
-use crate::logged::Logged;
+use crate::logged::{Held, Logged};
 use crate::rule::{Compare, CopySeat, DeskRule, Draw, JoinSeats, Leave, Look};
 use crate::sleepers::Sleepers;
 use atomic_table::{Refused, Table};
 use pgw_frames::NoMemory;
 use proxy_outside::Machine;
 use std::alloc::Global;
+use std::boxed::Box;
 use std::hint::spin_loop;
 use std::sync::Wait;
 use std::thread;
@@ -26,16 +26,25 @@ const TICKET: usize = 0;
 // The word with the ticket whose turn it is.
 const SERVING: usize = 1;
 
-// How often a waiting thread looks before it sleeps.
-const LOOKS: u32 = 100;
+// How often a waiting thread spins between two looks: each look slows down the thread that is served.
+const SPINS: [u32; 7] = [1, 2, 4, 8, 16, 32, 64];
+
+// How often it then lets other threads run before it sleeps.
+const YIELDS: u32 = 3;
+
+fn spin(times: u32) {
+    for _ in 0..times {
+        spin_loop();
+    }
+}
 
 pub type LockSeat<M> = atomic_table::Seat<
-    Option<Logged<M, <M as Machine>::Command>>,
+    Held<M>,
     View<<M as Machine>::Command, <M as Machine>::Reply>,
 >;
 
 pub type LockTable<M> = Table<
-    Option<Logged<M, <M as Machine>::Command>>,
+    Held<M>,
     View<<M as Machine>::Command, <M as Machine>::Reply>,
     u32,
     DeskRule<M>,
@@ -59,13 +68,14 @@ impl<M: Machine> TicketLock<M> {
         ensures seat { IfOk result (λ r. r.1.me ≡ (newcomer most [], [])) }
     {
         let machine = M::opening(alloc)?;
+        let journal = Vec::new(alloc);
+        let Ok(logged) = Box::new(alloc, Logged { machine, journal }) else {
+            return Err(NoMemory);
+        };
         let Ok(mut slots) = Vec::with_capacity(alloc, 1) else {
             return Err(NoMemory);
         };
-        slots.push_reserved(Some(Logged {
-            machine,
-            journal: Vec::new(alloc),
-        }));
+        slots.push_reserved(Some(logged));
         match Table::new(alloc, &[0, 0], slots, &most) {
             Ok((table, seat)) => {
                 let sleepers = Sleepers::new();
@@ -82,7 +92,7 @@ impl<M: Machine> TicketLock<M> {
         }
     }
 
-    // The next ticket, where its turn would be at once.
+    // The next ticket, where all that were drawn before were served.
     fn vacancy(&self) -> Option<u64>
         ensures { IfSome result (λ n. n + 1 < 2 ^ 64) }
     {
@@ -94,20 +104,29 @@ impl<M: Machine> TicketLock<M> {
         None
     }
 
-    // Looks for a while, and then sleeps until a call ends. Says whether it slept.
-    fn wait_vacancy<R: Wait>(&self, rt: &R) -> bool {
-        for _ in 0..LOOKS {
+    // Looks for a while, ever less often, and lets other threads run. Says whether a ticket can be drawn.
+    fn looks_out(&self) -> bool {
+        for spins in SPINS {
             if self.vacancy().is_some() {
-                return false;
+                return true;
             }
-            spin_loop();
+            spin(spins);
         }
+        for _ in 0..YIELDS {
+            if self.vacancy().is_some() {
+                return true;
+            }
+            thread::yield_now();
+        }
+        false
+    }
+
+    // Sleeps until a call ends, where no ticket can be drawn.
+    fn sleep<R: Wait>(&self, rt: &R) {
         self.sleepers.announce();
-        if self.vacancy().is_some() {
-            return false;
+        if self.vacancy().is_none() {
+            self.sleepers.sleep(rt);
         }
-        self.sleepers.sleep(rt);
-        true
     }
 
     // A ticket that no other call has.
@@ -118,25 +137,33 @@ impl<M: Machine> TicketLock<M> {
         ensures drawn { seat.new.me ≡ (drawn seat.old.me.0 result, seat.old.me.1) }
     {
         let shared = &self.table.shared;
-        let mut has_slept = false;
+        let mut waits = false;
         for _ in rt.forever() {
             if let Some(next) = self.vacancy() {
-                if has_slept {
+                if waits {
                     self.sleepers.announce();
                 }
                 let found = shared.compare_exchange::<Draw<M>>(seat, TICKET, next, next + 1);
                 if found == next {
+                    if waits {
+                        self.sleepers.part();
+                    }
                     return next;
                 }
             }
-            if self.wait_vacancy(rt) {
-                has_slept = true;
+            if self.looks_out() {
+                continue;
             }
+            if !waits {
+                self.sleepers.join();
+                waits = true;
+            }
+            self.sleep(rt);
         }
         unreachable!()
     }
 
-    // Goes on once the ticket is served, which it is at once.
+    // Goes on once the ticket is served.
     fn wait_turn<R: Wait>(&self, rt: &R, seat: &mut LockSeat<M>, ticket: u64)
         requires here { seat.old.table_id ≡ self.now.table.shared.table_id }
         requires waiting { seat.old.me.0.role ≡ Waiting ticket }
@@ -155,13 +182,17 @@ impl<M: Machine> TicketLock<M> {
     }
 
     /// Draws a ticket, waits for its turn and takes the value out.
-    pub fn enter<R: Wait>(&self, rt: &R, seat: &mut LockSeat<M>) -> (u64, Logged<M, M::Command>)
+    pub fn enter<R: Wait>(
+        &self,
+        rt: &R,
+        seat: &mut LockSeat<M>,
+    ) -> (u64, Box<Logged<M, M::Command>>)
         requires here { seat.old.table_id ≡ self.now.table.shared.table_id }
         requires idle { seat.old.me.0.role ≡ Idle }
         requires free { seat.old.me.1 ≡ [] }
         ensures here { seat.new.table_id ≡ seat.old.table_id }
-        ensures took { Took M.stands_for M.rules result.0 seat.old.me.0 result.1 }
-        ensures view { seat.new.me ≡ (at_turn seat.old.me.0 result.0 (log_of M.rules result.1.journal.items), (0, None) ∷ []) }
+        ensures took { Took M.stands_for M.rules result.0 seat.old.me.0 result.1.value }
+        ensures view { seat.new.me ≡ (at_turn seat.old.me.0 result.0 (log_of M.rules result.1.value.journal.items), (0, None) ∷ []) }
     {
         let ticket = self.draw(rt, seat);
         self.wait_turn(rt, seat, ticket);
@@ -170,12 +201,12 @@ impl<M: Machine> TicketLock<M> {
     }
 
     /// Gives the value back and serves the next ticket. It wakes a thread where some may sleep.
-    pub fn leave(&self, seat: &mut LockSeat<M>, logged: Logged<M, M::Command>)
+    pub fn leave(&self, seat: &mut LockSeat<M>, logged: Box<Logged<M, M::Command>>)
         requires here { seat.old.table_id ≡ self.now.table.shared.table_id }
         requires out { seat.old.me.1 ≡ (0, None) ∷ [] }
-        requires due { (n : ℕ) × (added : _) × IsDue M.stands_for M.rules n seat.old.me.0 logged added }
+        requires due { (n : ℕ) × (added : _) × IsDue M.stands_for M.rules n seat.old.me.0 logged.value added }
         ensures here { seat.new.table_id ≡ seat.old.table_id }
-        ensures view { seat.new.me ≡ (after_turn seat.old.me.0 (log_of M.rules logged.journal.items), []) }
+        ensures view { seat.new.me ≡ (after_turn seat.old.me.0 (log_of M.rules logged.value.journal.items), []) }
         ensures own { IsOwnOf seat.new.me.0.own seat.new.me.0.seen }
     {
         let shared = &self.table.shared;
@@ -213,9 +244,9 @@ impl<M: Machine> TicketLock<M> {
     }
 
     /// The value. Nothing comes back where a call that never returned has it out.
-    pub fn shut(self, seat: LockSeat<M>) -> Option<Logged<M, M::Command>>
+    pub fn shut(self, seat: LockSeat<M>) -> Held<M>
         requires { seat.table_id ≡ self.table.shared.table_id }
-        ensures { IfSome result (IsAtEnd M.stands_for M.rules seat.me.0 self.most) }
+        ensures { IfSome result (λ y. IsAtEnd M.stands_for M.rules seat.me.0 self.most y.value) }
     {
         let TicketLock {
             table,

@@ -6,6 +6,6 @@ use Rattle.counted_desk.proofs.logged.log_call.Goals as goal
 pub returns-in-Ok-clause-whole : goal.returns-in-Ok-clause-whole
 returns-in-Ok-clause-whole g c =
     let m = g.M.Machine in
-    let items = c.args.logged.journal.items in
+    let items = c.args.logged.now.journal.items in
     state-longer m.rules (m.stands_for c.step.new.self) items c.args.ticket c.args.command _ (c.push_reserved.ensures.items ∙ ap (λ l. l ++ call c.args.ticket c.args.command ∷ []) c.reserve.ensures.items)
     (c.in-Ok.ensures.state (state_of m.rules items) c.requires.whole)
