@@ -20,7 +20,7 @@ use Rattle.proxy_hub.specs.declared.reply.HubReply.TheVariants as say
 use Rattle.proxy_hub.specs.States.{State, tenant_of}
 use Rattle.proxy_hub.specs.States.{without as left}
 use Rattle.proxy_hub.specs.Steps.{if_live, given, released, binding, bind_at, after_binding}
-use Rattle.proxy_hub.specs.Hubs.{StandsFor}
+use Rattle.proxy_hub.specs.Hubs.{StandsFor, AreNumbered}
 use Rattle.proxy_hub.proofs.Members.{tenant_live, home_taken, live_left, all_left, found_left}
 
 -- ---- whether a session is live
@@ -82,9 +82,6 @@ home_in h s n st = ap (λ hs. map.get hs n) st.homes
 key_in : (h : Hub) (s : State) (n : SessionNo) → StandsFor h s → map.get h.keys n ≡ map.get s.keys n
 key_in h s n st = ap (λ ks. map.get ks n) st.keys
 
-pub no_binding : (s : State) (n : SessionNo) → tenant_of s n ≡ None → binding s n ≡ None
-no_binding s n none = ap (λ (o : Option TenantId). bind_at o (map.get s.homes n) (map.get s.keys n)) none
-
 no_home_by : (t : Option TenantId) (k : Option Given) → bind_at t None k ≡ None
 no_home_by None k = refl
 no_home_by (Some t) k = refl
@@ -114,8 +111,14 @@ homeless h s n st none = ap (λ (o : Option Home). bind_at (tenant_of s n) o (ma
 pub keyless : (h : Hub) (s : State) (n : SessionNo) → StandsFor h s → is_some (map.get h.keys n) ≡ false → binding s n ≡ None
 keyless h s n st none = ap (λ (o : Option Given). bind_at (tenant_of s n) (map.get s.homes n) o) (sym (key_in h s n st) ∙ none_key (map.get h.keys n) none) ∙ no_key_by (tenant_of s n) (map.get s.homes n)
 
-pub binds : (h : Hub) (s : State) (n : SessionNo) (place : Place) → StandsFor h s → is_some (tenant_of s n) ≡ true → option_map (λ (x : Home). x.place) (map.get h.directory.homes n) ≡ Some place → is_some (map.get h.keys n) ≡ true → binding s n ≡ Some place
-binds h s n place st live at key = binds_by (tenant_of s n) (map.get s.homes n) (map.get s.keys n) place live (ap (option_map (λ (x : Home). x.place)) (sym (home_in h s n st)) ∙ at) (ap is_some (sym (key_in h s n st)) ∙ key)
+live_at : (s : State) (n : SessionNo) (o : Option Home) (place : Place) → AreNumbered s → map.get s.homes n ≡ o → option_map (λ (x : Home). x.place) o ≡ Some place → is_some (tenant_of s n) ≡ true
+live_at s n None place numbered is at = grind (arith)
+live_at s n (Some home) place numbered is at = ap is_some (numbered.owned n home is)
+
+pub binds : (h : Hub) (s : State) (n : SessionNo) (place : Place) → StandsFor h s → option_map (λ (x : Home). x.place) (map.get h.directory.homes n) ≡ Some place → is_some (map.get h.keys n) ≡ true → binding s n ≡ Some place
+binds h s n place st at key =
+    let live = live_at s n (map.get h.directory.homes n) place st.numbered (sym (home_in h s n st)) at in
+    binds_by (tenant_of s n) (map.get s.homes n) (map.get s.keys n) place live (ap (option_map (λ (x : Home). x.place)) (sym (home_in h s n st)) ∙ at) (ap is_some (sym (key_in h s n st)) ∙ key)
 
 pub unbound_stands : (h : Hub) (s : State) (n : SessionNo) (key : PodKey) → StandsFor h s → binding s n ≡ None → StandsFor h (after_binding s n key (binding s n))
 unbound_stands h s n key st none = subst (StandsFor h) (ap (after_binding s n key) (sym none)) st

@@ -5,3 +5,4 @@ pub mod Opening
 pub mod Planning
 pub mod Suiting
 pub mod Members
+pub mod Asking

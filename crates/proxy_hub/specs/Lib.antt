@@ -4,3 +4,4 @@ pub mod Loads
 pub mod Hubs
 pub mod Ports
 pub mod Kinds
+pub mod AtDesks

@@ -1,5 +1,6 @@
 -- What a port tells of itself, and what one ask of it may come to.
 use Rattle.std.specs.Prelude.{◌≡◌, ◌≤◌, ℕ, List, [], ◌∷◌, ◌++◌, ⊤, Result, Ok, Err}
+use Rattle.counted_desk.specs.Seats.{DeskId}
 use Rattle.proxy_outside.specs.Reading.{Rose}
 use Rattle.proxy_hub.specs.declared.command.HubCommand.{HubCommand}
 use Rattle.proxy_hub.specs.declared.command.HubCommand.TheVariants.{SetLists, Update, Admit, GiveKey, Pick, Assign, Bind, Report, Target, Plan, Find, Release}
@@ -10,9 +11,9 @@ use Rattle.proxy_hub.specs.declared.reply.Refusal.TheVariants.{Denied, NotAllowe
 use Rattle.proxy_hub.specs.declared.fault.HubFault.{HubFault}
 use Rattle.proxy_hub.specs.declared.fault.HubFault.TheVariants.{NoMemory, JournalFull}
 
--- how many commands are taken at most, the commands that were asked here with their replies, and how many asks were refused
+-- the desk that is asked, with how many commands it takes at most; the commands that were asked here with their replies; and how many asks were refused
 pub record Port : Type 0 where
-  pub limit : ℕ
+  pub desk : DeskId
   pub asked : List (HubCommand × HubReply)
   pub refusals : ℕ
 
@@ -93,5 +94,5 @@ Tells (JournalFull n) limit = n ≡ limit
 
 -- by the answer: the command stands at the list's end with its reply, or it was refused and stands nowhere
 abbrev pub Asks : Port → Port → HubCommand → Result HubReply HubFault → Type 0
-Asks old new c (Ok r) = (new.limit ≡ old.limit) × (new.asked ≡ old.asked ++ (c, r) ∷ []) × (old.refusals ≤ new.refusals) × Suits c r
-Asks old new c (Err f) = (new.limit ≡ old.limit) × (new.asked ≡ old.asked) × Rose old.refusals new.refusals × Tells f old.limit
+Asks old new c (Ok r) = (new.desk ≡ old.desk) × (new.asked ≡ old.asked ++ (c, r) ∷ []) × (old.refusals ≤ new.refusals) × Suits c r
+Asks old new c (Err f) = (new.desk ≡ old.desk) × (new.asked ≡ old.asked) × Rose old.refusals new.refusals × Tells f old.desk.most

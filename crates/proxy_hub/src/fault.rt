@@ -1,5 +1,9 @@
 //! Why a port gives no reply.
 
+ghost use Rattle.std.specs.Prelude.{◌≡◌};
+ghost use Rattle.proxy_hub.specs.AtDesks.{fault_of};
+
+use counted_desk::CallFault;
 use std::fmt;
 
 /// A port took the command nowhere, and nothing changed.
@@ -8,6 +12,17 @@ pub enum HubFault {
     NoMemory,
     /// The desk behind the port takes so many commands at most, and has taken them.
     JournalFull(u32),
+}
+
+impl From<CallFault> for HubFault {
+    ghost from_gives = { λ fault e. e ≡ fault_of fault };
+
+    fn from(fault: CallFault) -> HubFault {
+        match fault {
+            CallFault::NoMemory => HubFault::NoMemory,
+            CallFault::JournalFull(most) => HubFault::JournalFull(most),
+        }
+    }
 }
 
 impl fmt::Display for HubFault {

@@ -34,9 +34,7 @@ impl Hub {
         ensures reply { Replies self.old (command.Bind session key) result }
         ensures state { Goes self.old self.new (command.Bind session key) }
     {
-        if self.roster.tenant(session).is_none() {
-            return HubReply::NoSession;
-        }
+        // Only a live session has a home.
         let Some(place) = self.directory.home(session) else {
             return HubReply::NoSession;
         };

@@ -7,9 +7,9 @@ use crate::fault::HubFault;
 use crate::reply::HubReply;
 use std::sync::Wait;
 
-/// A way to a hub that others may ask too. Contracts see how many commands the hub takes at most, which no
-/// call changes; the commands that were asked here with their replies; and how often an ask was refused, a
-/// count that never falls and stops at 2^64 - 1.
+/// A way to a hub that others may ask too. Contracts see the desk that is asked, with how many commands it
+/// takes at most, which no call changes; the commands that were asked here with their replies; and how often
+/// an ask was refused, a count that never falls and stops at 2^64 - 1.
 pub trait HubPort {
     ghost use Rattle.proxy_hub.specs.Ports.{Port, Asks};
 

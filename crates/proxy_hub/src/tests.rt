@@ -7,9 +7,9 @@ use std::alloc::Global;
 use std::test::*;
 use tenant_directory::{Pod, PodState, RowFault, TenantRow};
 
-const CLIENT: Addr = Addr::V4(0x0a01_0203);
+pub(crate) const CLIENT: Addr = Addr::V4(0x0a01_0203);
 
-const TENANT: TenantId = TenantId(7);
+pub(crate) const TENANT: TenantId = TenantId(7);
 
 fn place(pod: u32) -> Place {
     Place {
@@ -20,7 +20,12 @@ fn place(pod: u32) -> Place {
 }
 
 /// A row of pods, the first ones of which drain.
-fn row(alloc: Global, version: u64, draining: u32, pods: u32) -> Result<TenantRow, RowFault> {
+pub(crate) fn row(
+    alloc: Global,
+    version: u64,
+    draining: u32,
+    pods: u32,
+) -> Result<TenantRow, RowFault> {
     let mut all = Vec::new(alloc);
     for pod in 1..=pods {
         let state = if pod <= draining {
