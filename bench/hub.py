@@ -4,9 +4,11 @@
 usage: bench/hub.py [FEW] [MANY] [ROUNDS] [FOLDER]
 
 Makes a small program over the crates, which proves and builds in some minutes; in FOLDER, where one is given, it
-is kept, so that a further run is quick. It fills a hub with so many sessions (10000, and then 100000) of 100
-tenants, each with 20 pods, and asks each command of it in no order, in so many rounds (15). Printed are the median
-times of a command, and how much they grow.
+is kept, so that a further run is quick. It fills a hub with few sessions (10000) and one with many (100000), of 100
+tenants with 20 pods each, and asks each command of one and then of the other, in so many rounds (15) and in two
+orders: of sessions that come and go while these live on, as connections ask; and of the live ones in no order,
+beside a read of an array that has a row of 128 bytes for each. Printed are the median times of a command, and how
+much they grow.
 """
 import os
 import shutil
@@ -35,9 +37,14 @@ const ROUNDS: u64 = @ROUNDS@;
 const TENANTS: u64 = 100;
 const PODS: u32 = 20;
 
-/// How often a command is asked in a round, and how often one that looks at all sessions of a tenant.
+/// How often a command is asked in a round.
 const ASKS: u64 = 2_000;
+
+/// The same of one that looks at all sessions of a tenant.
 const LONG_ASKS: u64 = 40;
+
+/// The same of an end in no order: no session ends twice in all the rounds.
+const ENDS: u64 = 200;
 
 #[derive(Clone, Copy)]
 enum Kind {
@@ -51,6 +58,55 @@ enum Kind {
     Plan,
     Find,
     Release,
+}
+
+/// Which sessions are asked for.
+#[derive(Clone, Copy)]
+enum Order {
+    /// Those that come and go in this round.
+    Newest,
+    /// Any of those that live on.
+    Any,
+    /// The same, and none twice.
+    Once,
+}
+
+fn name_of(kind: Kind) -> &'static str {
+    match kind {
+        Kind::Admit => "Admit",
+        Kind::GiveKey => "GiveKey",
+        Kind::Pick => "Pick",
+        Kind::Assign => "Assign",
+        Kind::Bind => "Bind",
+        Kind::Report => "Report",
+        Kind::Target => "Target",
+        Kind::Plan => "Plan",
+        Kind::Find => "Find",
+        Kind::Release => "Release",
+    }
+}
+
+fn asks_of(order: Order, kind: Kind) -> u64 {
+    match (order, kind) {
+        (_, Kind::Target | Kind::Plan) => LONG_ASKS,
+        (Order::Once, _) => ENDS,
+        (_, _) => ASKS,
+    }
+}
+
+/// The session that the ask at this place of this round is for, counted from 0.
+fn asked(order: Order, sessions: u64, round: u64, place: u64) -> u64 {
+    match order {
+        Order::Newest => sessions.wrapping_add(round.wrapping_mul(ASKS)).wrapping_add(place),
+        Order::Any => {
+            let n = mixed(round.wrapping_mul(ASKS).wrapping_add(place));
+            n.checked_rem(sessions).unwrap_or(0)
+        }
+        Order::Once => {
+            let n = round.wrapping_mul(ENDS).wrapping_add(place);
+            n.wrapping_mul(7_919).checked_rem(sessions).unwrap_or(0)
+        }
+    }
 }
 
 /// Numbers in no order.
@@ -167,12 +223,11 @@ fn micros<C: Clock>(rt: &C, from: Instant) -> io::Result<u64> {
     Ok(u64::try_from(from.elapsed(rt)?.as_micros()).unwrap_or(u64::MAX))
 }
 
-/// Asks of sessions in no order.
-fn ask(hub: &mut Hub, kind: Kind, asks: u64, sessions: u64, shift: u64) -> Result<u64, NoMemory> {
+/// Asks, and says how many asks were served.
+fn ask(hub: &mut Hub, order: Order, kind: Kind, sessions: u64, round: u64) -> Result<u64, NoMemory> {
     let mut served = 0u64;
-    for i in 0..asks {
-        let n = mixed(i.wrapping_add(shift)).checked_rem(sessions).unwrap_or(0);
-        let reply = hub.step(&command(kind, n))?;
+    for place in 0..asks_of(order, kind) {
+        let reply = hub.step(&command(kind, asked(order, sessions, round, place)))?;
         if !matches!(reply, HubReply::NoSession | HubReply::NoKey | HubReply::No(_)) {
             served = served.wrapping_add(1);
         }
@@ -180,77 +235,132 @@ fn ask(hub: &mut Hub, kind: Kind, asks: u64, sessions: u64, shift: u64) -> Resul
     Ok(served)
 }
 
-/// Asks of the sessions from this number on.
-fn ask_from(hub: &mut Hub, kind: Kind, asks: u64, first: u64) -> Result<u64, NoMemory> {
-    let mut served = 0u64;
-    for i in 0..asks {
-        let reply = hub.step(&command(kind, first.wrapping_add(i)))?;
-        if !matches!(reply, HubReply::NoSession | HubReply::No(_)) {
-            served = served.wrapping_add(1);
+fn told(
+    rt: &HostRuntime,
+    column: &str,
+    name: &str,
+    sessions: u64,
+    from: Instant,
+    asks: u64,
+    served: Result<u64, NoMemory>,
+) -> io::Result<()> {
+    let took = micros(rt, from)?;
+    println!(rt; "{column},{name},{sessions},{took},{asks},{}", served.unwrap_or(0))
+}
+
+fn block(rt: &HostRuntime, hub: &mut Hub, order: Order, kind: Kind, sessions: u64, round: u64) -> io::Result<()> {
+    let column = match order {
+        Order::Newest => "newest",
+        Order::Any | Order::Once => "any",
+    };
+    let from = Instant::now(rt)?;
+    let served = ask(hub, order, kind, sessions, round);
+    told(rt, column, name_of(kind), sessions, from, asks_of(order, kind), served)
+}
+
+/// Reads rows in no order, and adds up.
+fn read(rows: &[[u64; 16]], sessions: u64, round: u64) -> u64 {
+    let mut sum = 0u64;
+    for place in 0..ASKS {
+        let n = asked(Order::Any, sessions, round, place) as usize;
+        if let Some(row) = rows.get(n) {
+            sum = sum.wrapping_add(row[0]);
         }
     }
-    Ok(served)
+    sum
 }
 
-fn told(rt: &HostRuntime, name: &str, sessions: u64, from: Instant, asks: u64, served: Result<u64, NoMemory>) -> io::Result<()> {
-    let took = micros(rt, from)?;
-    println!(rt; "{name},{sessions},{took},{asks},{}", served.unwrap_or(0))
+fn row_block(rt: &HostRuntime, rows: &[[u64; 16]], sessions: u64, round: u64) -> io::Result<()> {
+    let from = Instant::now(rt)?;
+    let sum = read(rows, sessions, round);
+    told(rt, "any", "array", sessions, from, ASKS, Ok(sum))
 }
 
-fn round(rt: &HostRuntime, hub: &mut Hub, sessions: u64, n: u64) -> io::Result<()> {
+fn rows_of(alloc: Global, sessions: u64) -> Result<Vec<[u64; 16]>, NoMemory> {
+    let mut rows = Vec::new(alloc);
+    for _ in 0..sessions {
+        rows.push([1; 16])?;
+    }
+    Ok(rows)
+}
+
+fn tenants_block(rt: &HostRuntime, hub: &mut Hub, sessions: u64, round: u64) -> io::Result<()> {
     let alloc: Global = rt.alloc();
-    let shift = n.wrapping_mul(ASKS);
-    let first = sessions.wrapping_add(shift);
     let from = Instant::now(rt)?;
-    let served = ask_from(hub, Kind::Admit, ASKS, first);
-    told(rt, "Admit", sessions, from, ASKS, served)?;
-    let from = Instant::now(rt)?;
-    let served = ask_from(hub, Kind::Release, ASKS, first);
-    told(rt, "Release", sessions, from, ASKS, served)?;
-    let from = Instant::now(rt)?;
-    let served = ask(hub, Kind::GiveKey, ASKS, sessions, shift);
-    told(rt, "GiveKey", sessions, from, ASKS, served)?;
-    let from = Instant::now(rt)?;
-    let served = ask(hub, Kind::Pick, ASKS, sessions, shift);
-    told(rt, "Pick", sessions, from, ASKS, served)?;
-    let from = Instant::now(rt)?;
-    let served = ask(hub, Kind::Assign, ASKS, sessions, shift);
-    told(rt, "Assign", sessions, from, ASKS, served)?;
-    let from = Instant::now(rt)?;
-    let served = ask(hub, Kind::Bind, ASKS, sessions, shift);
-    told(rt, "Bind", sessions, from, ASKS, served)?;
-    let from = Instant::now(rt)?;
-    let served = ask(hub, Kind::Report, ASKS, sessions, shift);
-    told(rt, "Report", sessions, from, ASKS, served)?;
-    let from = Instant::now(rt)?;
-    let served = ask(hub, Kind::Find, ASKS, sessions, shift);
-    told(rt, "Find", sessions, from, ASKS, served)?;
-    let from = Instant::now(rt)?;
-    let served = ask(hub, Kind::Target, LONG_ASKS, sessions, shift);
-    told(rt, "Target", sessions, from, LONG_ASKS, served)?;
-    let from = Instant::now(rt)?;
-    let served = ask(hub, Kind::Plan, LONG_ASKS, sessions, shift);
-    told(rt, "Plan", sessions, from, LONG_ASKS, served)?;
-    let from = Instant::now(rt)?;
-    let done = update(hub, alloc, n.wrapping_add(2)).is_ok();
-    told(rt, "Update", sessions, from, TENANTS, Ok(if done { TENANTS } else { 0 }))?;
+    let done = update(hub, alloc, round.wrapping_add(2)).is_ok();
+    told(rt, "newest", "Update", sessions, from, TENANTS, Ok(if done { TENANTS } else { 0 }))?;
     let from = Instant::now(rt)?;
     let done = hub.step(&HubCommand::SetLists(Lists::new(alloc))).is_ok();
-    told(rt, "SetLists", sessions, from, 1, Ok(if done { 1 } else { 0 }))
+    told(rt, "newest", "SetLists", sessions, from, 1, Ok(if done { 1 } else { 0 }))
 }
 
-fn main(rt: HostRuntime) -> io::Result<()> {
-    for sessions in [@FEW@u64, @MANY@u64] {
-        match filled(rt.alloc(), sessions) {
-            Ok(mut hub) => {
-                for n in 0..ROUNDS {
-                    round(&rt, &mut hub, sessions, n)?;
-                }
-            }
-            Err(_) => println!(rt; "no memory")?,
+/// What a connection asks, in its order, of many connections at a time; then the same of those that live on.
+fn round(rt: &HostRuntime, hub: &mut Hub, rows: &[[u64; 16]], sessions: u64, n: u64) -> io::Result<()> {
+    for kind in [
+        Kind::Admit,
+        Kind::GiveKey,
+        Kind::Pick,
+        Kind::Assign,
+        Kind::Bind,
+        Kind::Report,
+        Kind::Target,
+        Kind::Plan,
+        Kind::Find,
+        Kind::Release,
+    ] {
+        block(rt, hub, Order::Newest, kind, sessions, n)?;
+    }
+    for kind in [Kind::GiveKey, Kind::Assign, Kind::Bind, Kind::Find] {
+        block(rt, hub, Order::Any, kind, sessions, n)?;
+    }
+    row_block(rt, rows, sessions, n)?;
+    tenants_block(rt, hub, sessions, n)
+}
+
+/// A hub with so many sessions, and as many rows of an array.
+#[derive(Drop)]
+struct Busy {
+    sessions: u64,
+    hub: Hub,
+    rows: Vec<[u64; 16]>,
+}
+
+fn both(alloc: Global) -> Result<[Busy; 2], NoMemory> {
+    let few = @FEW@u64;
+    let many = @MANY@u64;
+    Ok([
+        Busy {
+            sessions: few,
+            hub: filled(alloc, few)?,
+            rows: rows_of(alloc, few)?,
+        },
+        Busy {
+            sessions: many,
+            hub: filled(alloc, many)?,
+            rows: rows_of(alloc, many)?,
+        },
+    ])
+}
+
+fn times(rt: &HostRuntime, mut all: [Busy; 2]) -> io::Result<()> {
+    for n in 0..ROUNDS {
+        for one in all.iter_mut() {
+            round(rt, &mut one.hub, one.rows.as_slice(), one.sessions, n)?;
+        }
+    }
+    for n in 0..ROUNDS {
+        for one in all.iter_mut() {
+            block(rt, &mut one.hub, Order::Once, Kind::Release, one.sessions, n)?;
         }
     }
     Ok(())
+}
+
+fn main(rt: HostRuntime) -> io::Result<()> {
+    match both(rt.alloc()) {
+        Ok(all) => times(&rt, all),
+        Err(_) => println!(rt; "no memory"),
+    }
 }
 """
 
@@ -298,6 +408,14 @@ def build(folder, numbers):
     return run.stdout
 
 
+def cells(found, column, few, many):
+    """The medians of a column, and how much they grow."""
+    if (column, few) not in found:
+        return "| | |"
+    small, large = (statistics.median(found[column, n]) for n in (few, many))
+    return f"{small:.2f} | {large:.2f} | {large / small if small else 0:.2f} |"
+
+
 def main():
     few, many, rounds = (
         int(sys.argv[i]) if len(sys.argv) > i else default for i, default in ((1, 10_000), (2, 100_000), (3, 15))
@@ -309,15 +427,14 @@ def main():
         with tempfile.TemporaryDirectory() as folder:
             lines = build(folder, numbers).splitlines()
     times = {}
-    for name, sessions, micros, asks, served in (line.split(",") for line in lines):
+    for column, name, sessions, micros, asks, served in (line.split(",") for line in lines):
         if served != asks:
             sys.exit(f"{name} with {sessions} sessions: {served} of {asks} were served")
-        times.setdefault(name, {}).setdefault(int(sessions), []).append(int(micros) / int(asks))
-    print(f"| command | µs with {few} sessions | with {many} | times |")
-    print("|---|---|---|---|")
-    for name, by_sessions in times.items():
-        small, large = (statistics.median(by_sessions[n]) for n in (few, many))
-        print(f"| `{name}` | {small:.2f} | {large:.2f} | {large / small if small else 0:.2f} |")
+        times.setdefault(name, {}).setdefault((column, int(sessions)), []).append(int(micros) / int(asks))
+    print(f"| command | µs with {few} sessions | with {many} | times | of any: with {few} | with {many} | times |")
+    print("|---|---|---|---|---|---|---|")
+    for name, found in times.items():
+        print(f"| `{name}` |", *(cells(found, column, few, many) for column in ("newest", "any")))
 
 
 if __name__ == "__main__":
