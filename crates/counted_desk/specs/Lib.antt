@@ -2,3 +2,4 @@ pub mod History
 pub mod Rule
 pub mod Seats
 pub mod Calls
+pub mod Faults

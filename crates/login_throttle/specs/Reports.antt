@@ -1,7 +1,7 @@
 -- What follows from all the logins that were reported.
-use Rattle.std.specs.Prelude.{◌==◌, ℕ, ◌+◌, ◌-◌, ◌^◌, ◌&&◌, min, nat_lt, Bool, false, if◌then◌else◌, List, [], ◌∷◌, filter}
+use Rattle.std.specs.Prelude.{◌==◌, ℕ, ◌+◌, ◌-◌, ◌^◌, ◌&&◌, min, nat_lt, Bool, if◌then◌else◌, List, [], ◌∷◌, filter}
 use Rattle.proxy_outside.specs.declared.addr.Addr.{Addr}
-use Rattle.proxy_outside.specs.declared.addr.Addr.TheVariants.{V4, V6}
+use Rattle.proxy_outside.specs.Addr.{is_same_addr}
 use Rattle.proxy_outside.specs.declared.identity.TenantId.{TenantId}
 use Rattle.login_throttle.specs.declared.allowance.Allowance.{Allowance}
 use Rattle.login_throttle.specs.declared.allowance.Allowance.TheVariants.{Go, Until}
@@ -15,14 +15,8 @@ pub record Report : Type 0 where
 
 -- ---- the reports of an address and a tenant
 
-abbrev pub is_same : Addr → Addr → Bool
-is_same (V4 m) (V4 n) = m == n
-is_same (V6 m) (V6 n) = m == n
-is_same (V4 m) (V6 n) = false
-is_same (V6 m) (V4 n) = false
-
 abbrev pub is_of : Addr → TenantId → Report → Bool
-is_of addr tenant r = r.tenant.0 == tenant.0 && is_same r.addr addr
+is_of addr tenant r = r.tenant.0 == tenant.0 && is_same_addr r.addr addr
 
 abbrev pub reports_of : Addr → TenantId → List Report → List Report
 reports_of addr tenant reports = filter (is_of addr tenant) reports

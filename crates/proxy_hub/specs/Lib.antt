@@ -5,3 +5,4 @@ pub mod Hubs
 pub mod Ports
 pub mod Kinds
 pub mod AtDesks
+pub mod Faults

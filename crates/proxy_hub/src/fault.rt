@@ -1,7 +1,8 @@
 //! Why a port gives no reply.
 
-ghost use Rattle.std.specs.Prelude.{◌≡◌};
+ghost use Rattle.std.specs.Prelude.{◌≡◌, Some};
 ghost use Rattle.proxy_hub.specs.AtDesks.{fault_of};
+ghost use Rattle.proxy_hub.specs.Faults.{fault_text};
 
 use counted_desk::CallFault;
 use std::fmt;
@@ -26,6 +27,8 @@ impl From<CallFault> for HubFault {
 }
 
 impl fmt::Display for HubFault {
+    ghost output = { λ e. Some (fault_text e) };
+
     fn fmt<W: fmt::Write>(&self, f: &mut fmt::Formatter<W>) -> fmt::Result {
         match self {
             HubFault::NoMemory => write!(f, "no memory"),
