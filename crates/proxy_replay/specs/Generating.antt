@@ -8,18 +8,32 @@ use Rattle.tally_session.specs.Tally.{Tally, tally_kind, tally_rules}
 use Rattle.tally_session.specs.declared.store.Nothing.{Nothing}
 use Rattle.proxy_replay.specs.Client.{client_params, client_key}
 use Rattle.proxy_replay.specs.Summary.{summary_text}
-use Rattle.proxy_replay.specs.declared.generated.Generated.{Generated}
+use Rattle.forwarder_core.specs.declared.world.World.{World as Real}
+use Rattle.proxy_replay.specs.declared.generated.Made.{Made}
 
 -- the world of these events, over a tally session
 abbrev pub world_of : List (Event Nothing) → World Tally (Unit {0}) Nothing
 world_of es = run tally_kind tally_rules client_key client_params (start tally_kind tally_rules client_params) es
 
+-- what a World over a tally session stands for
+abbrev pub IsAt : {M : Type 0} → Real Tally M Nothing Nothing → World Tally (Unit {0}) Nothing → Type 0
+IsAt real w = WorldStands (λ (s : Tally). s) (λ m t. Unit {0}) client_key client_params real w
+
+-- nothing has happened to it
+abbrev pub HasBegun : {M : Type 0} → Real Tally M Nothing Nothing → Type 0
+HasBegun real = IsAt real (start tally_kind tally_rules client_params)
+
 -- the first turns of this number were played
-pub record IsPlayedTo (number n : ℕ) (g : Generated) : Type 0 where
-  pub words : g.words ≡ (turns n (words_of number)).1
-  pub events : g.events ≡ length (generated number n)
-  pub few : g.events ≤ 64 * n + 4
-  pub world : WorldStands (λ (s : Tally). s) (λ m t. Unit {0}) client_key client_params g.world (world_of (generated number n))
+pub record IsPlayedTo {M : Type 0} (number n : ℕ) (made : Made) (real : Real Tally M Nothing Nothing) : Type 0 where
+  pub words : made.words ≡ (turns n (words_of number)).1
+  pub events : made.events ≡ length (generated number n)
+  pub few : made.events ≤ 64 * n + 4
+  pub world : IsAt real (world_of (generated number n))
+
+-- the whole schedule was played, so many events
+pub record IsPlayed {M : Type 0} (number messages n : ℕ) (real : Real Tally M Nothing Nothing) : Type 0 where
+  pub events : n ≡ length (generated number messages)
+  pub world : IsAt real (world_of (generated number messages))
 
 -- the summary of a world after so many events, and of the schedule of a number
 unfoldable pub summary_by : {S T C : Type 0} → ℕ → ℕ → ℕ → World S T C → List ℕ

@@ -11,7 +11,7 @@ ghost use Rattle.forwarder_core.specs.Stands.{WorldStands};
 ghost use Rattle.tally_session.specs.Tally.{tally_kind, tally_rules};
 ghost use Rattle.tally_session.specs.declared.store.Nothing.{Nothing};
 ghost use Rattle.proxy_replay.specs.Client.{client_params, client_key};
-ghost use Rattle.proxy_replay.specs.Generating.{world_of};
+ghost use Rattle.proxy_replay.specs.Generating.{world_of, HasBegun};
 ghost use Rattle.proxy_replay.specs.Generations.{IsNoGen};
 ghost use Rattle.proxy_replay.specs.Inputs.{most_bytes};
 ghost use Rattle.proxy_replay.specs.Replaying.{report_by, IsRun, IsAnsweredBy, RunCase, GenCase, ReplaysText, CompletesText, Replays, Completes, CompletesGenerated};
@@ -20,7 +20,7 @@ use crate::commands::TallyCommands;
 use crate::generation::{Generation, generation_of};
 use crate::input::{Input, read_all};
 use crate::output::write_all;
-use crate::play::{Played, play};
+use crate::play::play;
 use crate::report::report_of;
 use crate::status::Status;
 use crate::words::is_run;
@@ -48,20 +48,32 @@ fn report_for<S: Session>(alloc: Global, world: &World<S>) -> Result<Bytes, NoMe
     Ok(report)
 }
 
+/// Plays a text to a World that has just begun, and answers it.
+fn answer_by(
+    alloc: Global,
+    world: &mut World<TallySession>,
+    text: &[u8],
+) -> Result<Answer, NoMemory>
+    requires { length text.now ≤ most_bytes }
+    ensures { IfOk result (λ a. HasBegun world.old → IsAnsweredBy text.now a) }
+{
+    if let Some(n) = play::<TallySession, TallyCommands>(alloc, world, text)? {
+        return Ok(Answer::BadLine(n));
+    }
+    let report = report_for(alloc, world)?;
+    Ok(Answer::Report(report))
+}
+
 /// What a schedule is answered by over a tally session.
 fn answer_to(alloc: Global, text: &[u8]) -> Result<Answer, NoMemory>
     requires { length text.now ≤ most_bytes }
     ensures { IfOk result (IsAnsweredBy text.now) }
 {
     let params = client::params(alloc)?;
-    let played = play::<TallySession, TallyCommands>(alloc, text, params, client::key())?;
-    match played {
-        Played::BadLine(n) => Ok(Answer::BadLine(n)),
-        Played::Whole(world) => {
-            let report = report_for(alloc, &world)?;
-            Ok(Answer::Report(report))
-        }
-    }
+    let mut world = World::start(alloc, params, client::key())?;
+    let answer = answer_by(alloc, &mut world, text);
+    drop(world);
+    answer
 }
 
 /// Answers a schedule to a sink.

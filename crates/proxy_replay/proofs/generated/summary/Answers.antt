@@ -1,17 +1,12 @@
-use Rattle.std.proofs.Common.{◌≡◌, ℕ, List, length, subst}
-use Rattle.std.specs.Prelude.{IfOk}
-use Rattle.generated_run.specs.Generated.{generated}
-use Rattle.proxy_replay.specs.Client.{client_key, client_params}
-use Rattle.proxy_replay.specs.Generating.{world_of}
-use Rattle.proxy_replay.proofs.Turns.{told}
+use Rattle.std.proofs.Common.{sym, subst}
+use Rattle.forwarder_core.specs.Starting.{CanStart}
+use Rattle.proxy_replay.specs.Generating.{HasBegun}
+use Rattle.proxy_replay.proofs.Common.{if_ok_given}
+use Rattle.proxy_replay.proofs.Starting.{client_can_start}
 use Rattle.proxy_replay.proofs.generated.summary.Goals as goal
 
+pub start-requires : goal.start-requires
+start-requires c = subst CanStart (sym c.in_ok-params.ensures) client_can_start
+
 pub returns : goal.returns
-returns c =
-    let number = c.args.g.now.number in
-    let messages = c.args.g.now.messages in
-    let played = c.in_ok-run.ensures in
-    let w = world_of (generated number messages) in
-    let same = told number messages c.in_ok-run.run'.events c.phase.result.now c.counts.result c.received.result.now (length (generated number messages)) w played.events
-    (c.phase.ensures client_key client_params w played.world) (c.counts.ensures client_key client_params w played.world) (c.received.ensures.stands client_key client_params w played.world) in
-    subst (λ (t : List ℕ). IfOk c.text.result (λ b. b ≡ t)) same c.text.ensures
+returns c = if_ok_given c.summary_of-summary.result (HasBegun c.in_ok-world.world) _ (rw (c.in_ok-params.ensures, c.key.ensures) at c.in_ok-world.ensures) c.summary_of-summary.ensures

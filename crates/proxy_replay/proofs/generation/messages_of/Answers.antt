@@ -1,4 +1,4 @@
-use Rattle.std.proofs.Common.{◌≡◌, ℕ, sym, ◌∙◌, arith}
+use Rattle.std.proofs.Common.{◌≡◌, sym, ◌∙◌, arith}
 use Rattle.std.proofs.lemmas.Fmt.{decimal_injective}
 use Rattle.proxy_replay.proofs.generation.messages_of.Goals as goal
 use Rattle.proxy_replay.proofs.generation.messages_of.Goals.{else-n-ge1-via-then-n-ge1+else-n-le100000, else-n-ge1-via-else-n-ge1}
