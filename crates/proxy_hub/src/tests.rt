@@ -2,8 +2,10 @@ use super::*;
 use access_lists::{Deny, Lists, Who, read_net};
 use pgw_frames::{NoMemory, Text};
 use pgw_messages::PodKey;
+use pod_balancer::Move;
 use proxy_outside::{Addr, ClientKey, Machine, Place, PodNo, SessionNo, TenantId};
 use std::alloc::Global;
+use std::process::Abort;
 use std::test::*;
 use tenant_directory::{Pod, PodState, RowFault, TenantRow};
 
@@ -41,68 +43,126 @@ pub(crate) fn row(
     TenantRow::of(alloc, TENANT, version, all.as_slice())
 }
 
-fn admit(hub: &mut Hub, now: u64) -> Result<HubReply, NoMemory> {
-    hub.step(&HubCommand::Admit {
-        addr: CLIENT,
-        tenant: TENANT,
-        now,
-    })
+/// What a reply says, of moves only how many and the first one, of a pod's key the secret.
+#[derive(Clone, Copy, Debug, PartialEq, Eq)]
+enum Told {
+    Done,
+    Stale(u64),
+    Admitted(SessionNo),
+    No(Refusal),
+    Key(ClientKey),
+    Picked(Place),
+    MoveTo(Place),
+    Stay,
+    Moves(usize, Option<Move>),
+    Found(Place, u32),
+    NoKey,
+    NoSession,
 }
 
-fn pick(hub: &mut Hub, first: Option<PodNo>) -> Result<HubReply, NoMemory> {
-    hub.step(&HubCommand::Pick {
-        tenant: TENANT,
-        first,
-        second: None,
-    })
+fn gist(reply: &HubReply) -> Told {
+    match reply {
+        HubReply::Done => Told::Done,
+        HubReply::Stale(version) => Told::Stale(*version),
+        HubReply::Admitted(session) => Told::Admitted(*session),
+        HubReply::No(why) => Told::No(*why),
+        HubReply::Key(key) => Told::Key(*key),
+        HubReply::Picked(place) => Told::Picked(*place),
+        HubReply::MoveTo(place) => Told::MoveTo(*place),
+        HubReply::Stay => Told::Stay,
+        HubReply::Moves(moves) => Told::Moves(moves.len(), moves.get(0).copied()),
+        HubReply::Found(place, key) => Told::Found(*place, key.secret),
+        HubReply::NoKey => Told::NoKey,
+        HubReply::NoSession => Told::NoSession,
+    }
 }
 
-fn target(hub: &mut Hub, session: u32) -> Result<HubReply, NoMemory> {
-    hub.step(&HubCommand::Target {
-        session: SessionNo(session),
-    })
+/// Asks, and gives the command up.
+fn ask(hub: &mut Hub, command: HubCommand) -> Result<Told, NoMemory> {
+    let reply = hub.step(&command);
+    drop(command);
+    let reply = reply?;
+    let told = gist(&reply);
+    drop(reply);
+    Ok(told)
 }
 
-fn assign(hub: &mut Hub, session: u32, pod: u32) -> Result<HubReply, NoMemory> {
-    hub.step(&HubCommand::Assign {
-        session: SessionNo(session),
-        place: place(pod),
-    })
+fn update(hub: &mut Hub, row: TenantRow) -> Result<Told, NoMemory> {
+    ask(hub, HubCommand::Update(row))
 }
 
-/// Two sessions of a tenant, of which one moves off a draining pod.
-#[test]
-fn a_session_moves(rt: HostRuntime) -> Result<(), Fail> {
-    let alloc = rt.alloc();
-    let mut hub = Hub::opening(alloc)?;
-    assert!(rt; matches!(admit(&mut hub, 0)?, HubReply::No(Refusal::NoTenant)));
-    let first = HubCommand::Update(row(alloc, 1, 0, 1)?);
-    assert!(rt; matches!(hub.step(&first)?, HubReply::Done));
-    assert!(rt; matches!(hub.step(&first)?, HubReply::Stale(1)));
-    assert!(rt; matches!(admit(&mut hub, 0)?, HubReply::Admitted(SessionNo(1))));
-    assert!(rt; matches!(admit(&mut hub, 0)?, HubReply::Admitted(SessionNo(2))));
-    let key = hub.step(&HubCommand::GiveKey {
+fn admit(hub: &mut Hub, now: u64) -> Result<Told, NoMemory> {
+    ask(
+        hub,
+        HubCommand::Admit {
+            addr: CLIENT,
+            tenant: TENANT,
+            now,
+        },
+    )
+}
+
+fn pick(hub: &mut Hub, first: Option<PodNo>) -> Result<Told, NoMemory> {
+    ask(
+        hub,
+        HubCommand::Pick {
+            tenant: TENANT,
+            first,
+            second: None,
+        },
+    )
+}
+
+fn target(hub: &mut Hub, session: u32) -> Result<Told, NoMemory> {
+    ask(
+        hub,
+        HubCommand::Target {
+            session: SessionNo(session),
+        },
+    )
+}
+
+fn assign(hub: &mut Hub, session: u32, pod: u32) -> Result<Told, NoMemory> {
+    ask(
+        hub,
+        HubCommand::Assign {
+            session: SessionNo(session),
+            place: place(pod),
+        },
+    )
+}
+
+const KEY: ClientKey = ClientKey {
+    process: 1,
+    secret: 9,
+};
+
+fn find(hub: &mut Hub) -> Result<Told, NoMemory> {
+    ask(
+        hub,
+        HubCommand::Find {
+            key: KEY,
+            addr: CLIENT,
+        },
+    )
+}
+
+/// Two sessions come in, and the first one stands at a pod, with a key.
+fn two_come_in<R: Abort>(rt: &R, alloc: Global, hub: &mut Hub) -> Result<(), Fail> {
+    assert_eq!(rt; admit(hub, 0)?, Told::No(Refusal::NoTenant));
+    assert_eq!(rt; update(hub, row(alloc, 1, 0, 1)?)?, Told::Done);
+    assert_eq!(rt; update(hub, row(alloc, 1, 0, 1)?)?, Told::Stale(1));
+    assert_eq!(rt; admit(hub, 0)?, Told::Admitted(SessionNo(1)));
+    assert_eq!(rt; admit(hub, 0)?, Told::Admitted(SessionNo(2)));
+    let give = HubCommand::GiveKey {
         session: SessionNo(1),
         addr: CLIENT,
         word: 9,
-    })?;
-    assert!(rt;
-        matches!(
-            key,
-            HubReply::Key(ClientKey {
-                process: 1,
-                secret: 9
-            })
-        )
-    );
-    assert!(rt; matches!(pick(&mut hub, None)?, HubReply::Picked(p) if p == place(1)));
-    assert!(rt;
-        matches!(
-            pick(&mut hub, Some(PodNo(1)))?,
-            HubReply::No(Refusal::NoPod)
-        )
-    );
-    assert!(rt; matches!(assign(&mut hub, 1, 1)?, HubReply::Done));
+    };
+    assert_eq!(rt; ask(hub, give)?, Told::Key(KEY));
+    assert_eq!(rt; pick(hub, None)?, Told::Picked(place(1)));
+    assert_eq!(rt; pick(hub, Some(PodNo(1)))?, Told::No(Refusal::NoPod));
+    assert_eq!(rt; assign(hub, 1, 1)?, Told::Done);
     let bind = HubCommand::Bind {
         session: SessionNo(1),
         key: PodKey {
@@ -110,72 +170,94 @@ fn a_session_moves(rt: HostRuntime) -> Result<(), Fail> {
             secret: 71,
         },
     };
-    assert!(rt; matches!(hub.step(&bind)?, HubReply::Done));
-    assert!(rt; matches!(target(&mut hub, 1)?, HubReply::Stay));
-    assert!(rt; matches!(target(&mut hub, 2)?, HubReply::Stay));
-    let second = HubCommand::Update(row(alloc, 2, 1, 2)?);
-    assert!(rt; matches!(hub.step(&second)?, HubReply::Done));
-    match hub.step(&HubCommand::Plan { tenant: TENANT })? {
-        HubReply::Moves(moves) => {
-            assert_eq!(rt; moves.len(), 1);
-            let only = moves.get(0).copied();
-            assert!(rt;
-                matches!(only, Some(m) if m.session == SessionNo(1) && m.from == PodNo(1) && m.to == PodNo(2))
-            );
-        }
-        _ => assert!(rt; false),
-    }
-    assert!(rt; matches!(target(&mut hub, 1)?, HubReply::MoveTo(p) if p == place(2)));
-    let find = HubCommand::Find {
-        key: ClientKey {
-            process: 1,
-            secret: 9,
-        },
-        addr: CLIENT,
+    assert_eq!(rt; ask(hub, bind)?, Told::Done);
+    assert_eq!(rt; target(hub, 1)?, Told::Stay);
+    assert_eq!(rt; target(hub, 2)?, Told::Stay);
+    Ok(())
+}
+
+/// The pod drains, and the first session has another one as its target; then it ends.
+fn the_first_moves<R: Abort>(rt: &R, alloc: Global, hub: &mut Hub) -> Result<(), Fail> {
+    assert_eq!(rt; update(hub, row(alloc, 2, 1, 2)?)?, Told::Done);
+    let plan = HubCommand::Plan { tenant: TENANT };
+    let only = Move {
+        session: SessionNo(1),
+        from: PodNo(1),
+        to: PodNo(2),
     };
-    assert!(rt;
-        matches!(hub.step(&find)?, HubReply::Found(p, key) if p == place(1) && key.secret == 71)
-    );
+    assert_eq!(rt; ask(hub, plan)?, Told::Moves(1, Some(only)));
+    assert_eq!(rt; target(hub, 1)?, Told::MoveTo(place(2)));
+    assert_eq!(rt; find(hub)?, Told::Found(place(1), 71));
     let release = HubCommand::Release {
         session: SessionNo(1),
     };
-    assert!(rt; matches!(hub.step(&release)?, HubReply::Done));
-    assert!(rt; matches!(target(&mut hub, 1)?, HubReply::NoSession));
-    assert!(rt; matches!(hub.step(&find)?, HubReply::NoKey));
-    assert!(rt; matches!(admit(&mut hub, 0)?, HubReply::Admitted(SessionNo(3))));
+    assert_eq!(rt; ask(hub, release)?, Told::Done);
+    assert_eq!(rt; target(hub, 1)?, Told::NoSession);
+    assert_eq!(rt; find(hub)?, Told::NoKey);
+    assert_eq!(rt; admit(hub, 0)?, Told::Admitted(SessionNo(3)));
+    Ok(())
+}
+
+fn sessions_move<R: Abort>(rt: &R, alloc: Global, hub: &mut Hub) -> Result<(), Fail> {
+    two_come_in(rt, alloc, hub)?;
+    the_first_moves(rt, alloc, hub)
+}
+
+/// Two sessions of a tenant, of which one moves off a draining pod.
+#[test]
+fn a_session_moves(rt: HostRuntime) -> Result<(), Fail> {
+    let mut hub = Hub::opening(rt.alloc())?;
+    let seen = sessions_move(&rt, rt.alloc(), &mut hub);
+    drop(hub);
+    seen
+}
+
+/// An allow list of the tenant, with no network.
+fn closed(alloc: Global) -> Result<Lists, NoMemory> {
+    let mut lists = Lists::new(alloc);
+    lists.add_allow(TENANT, None)?;
+    Ok(lists)
+}
+
+/// A deny entry of the client's network.
+fn denied(alloc: Global) -> Result<Lists, Fail> {
+    let mut lists = Lists::new(alloc);
+    lists.add_deny(Deny {
+        who: Who::Network(read_net("10.0.0.0/8")?),
+        until: None,
+        reason: Text::of(alloc, "too many tries")?,
+    })?;
+    Ok(lists)
+}
+
+fn set_lists(hub: &mut Hub, lists: Lists) -> Result<Told, NoMemory> {
+    ask(hub, HubCommand::SetLists(lists))
+}
+
+fn some_stay_out<R: Abort>(rt: &R, alloc: Global, hub: &mut Hub) -> Result<(), Fail> {
+    update(hub, row(alloc, 1, 0, 1)?)?;
+    let failed = HubCommand::Report {
+        addr: CLIENT,
+        tenant: TENANT,
+        ok: false,
+        now: 100,
+    };
+    ask(hub, failed)?;
+    assert_eq!(rt; admit(hub, 100)?, Told::No(Refusal::Throttled(101)));
+    assert_eq!(rt; admit(hub, 101)?, Told::Admitted(SessionNo(1)));
+    update(hub, row(alloc, 2, 1, 1)?)?;
+    assert_eq!(rt; admit(hub, 101)?, Told::No(Refusal::NoPod));
+    set_lists(hub, closed(alloc)?)?;
+    assert_eq!(rt; admit(hub, 101)?, Told::No(Refusal::NotAllowed));
+    set_lists(hub, denied(alloc)?)?;
+    assert_eq!(rt; admit(hub, 101)?, Told::No(Refusal::Denied(0)));
     Ok(())
 }
 
 #[test]
 fn who_stays_out(rt: HostRuntime) -> Result<(), Fail> {
-    let alloc = rt.alloc();
-    let mut hub = Hub::opening(alloc)?;
-    hub.step(&HubCommand::Update(row(alloc, 1, 0, 1)?))?;
-    hub.step(&HubCommand::Report {
-        addr: CLIENT,
-        tenant: TENANT,
-        ok: false,
-        now: 100,
-    })?;
-    assert!(rt; matches!(admit(&mut hub, 100)?, HubReply::No(Refusal::Throttled(101))));
-    assert!(rt; matches!(admit(&mut hub, 101)?, HubReply::Admitted(SessionNo(1))));
-
-    hub.step(&HubCommand::Update(row(alloc, 2, 1, 1)?))?;
-    assert!(rt; matches!(admit(&mut hub, 101)?, HubReply::No(Refusal::NoPod)));
-
-    let mut lists = Lists::new(alloc);
-    lists.add_allow(TENANT, None)?;
-    hub.step(&HubCommand::SetLists(lists))?;
-    assert!(rt; matches!(admit(&mut hub, 101)?, HubReply::No(Refusal::NotAllowed)));
-
-    let mut lists = Lists::new(alloc);
-    let net = read_net("10.0.0.0/8")?;
-    lists.add_deny(Deny {
-        who: Who::Network(net),
-        until: None,
-        reason: Text::of(alloc, "too many tries")?,
-    })?;
-    hub.step(&HubCommand::SetLists(lists))?;
-    assert!(rt; matches!(admit(&mut hub, 101)?, HubReply::No(Refusal::Denied(0))));
-    Ok(())
+    let mut hub = Hub::opening(rt.alloc())?;
+    let seen = some_stay_out(&rt, rt.alloc(), &mut hub);
+    drop(hub);
+    seen
 }

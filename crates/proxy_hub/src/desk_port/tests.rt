@@ -30,17 +30,33 @@ fn place<R: Wait>(
     Ok(desk.call(rt, seat, command)?.place)
 }
 
+/// The lists are set, and the tenant has a pod.
+fn opened<R: Wait>(
+    rt: &R,
+    alloc: Global,
+    desk: &Desk<Hub>,
+    seat: &mut Seat<Hub>,
+) -> Result<(u64, u64), Fail>
+    requires { seat.old.desk ≡ desk.now }
+    ensures { seat.new.desk ≡ desk.now }
+{
+    let row = row(alloc, 1, 0, 1)?;
+    let lists = place(rt, desk, seat, HubCommand::SetLists(Lists::new(alloc)))?;
+    let update = place(rt, desk, seat, HubCommand::Update(row))?;
+    Ok((lists, update))
+}
+
 #[test]
 fn a_full_desk_admits_nobody(rt: HostRuntime) -> Result<(), Fail> {
-    let alloc = rt.alloc();
-    let (desk, mut seat) = Desk::<Hub>::make(alloc, 2)?;
-    let lists = HubCommand::SetLists(Lists::new(alloc));
-    assert_eq!(rt; place(&rt, &desk, &mut seat, lists), Ok(0));
-    let update = HubCommand::Update(row(alloc, 1, 0, 1)?);
-    assert_eq!(rt; place(&rt, &desk, &mut seat, update), Ok(1));
+    let (desk, mut seat) = Desk::<Hub>::make(rt.alloc(), 2)?;
+    let places = opened(&rt, rt.alloc(), &desk, &mut seat);
     let mut port = DeskPort::make(&desk, seat);
-    assert!(rt; matches!(port.ask(&rt, ADMIT), Err(HubFault::JournalFull(2))));
+    let fault = port.ask(&rt, ADMIT).err();
     port.asks_in_one_legal_history();
+    drop(port);
+    drop(desk);
+    assert_eq!(rt; places?, (0, 1));
+    assert_eq!(rt; fault, Some(HubFault::JournalFull(2)));
     Ok(())
 }
 
@@ -84,77 +100,100 @@ fn both(
     Ok(all)
 }
 
+fn joined(desk: &Desk<Hub>, one: Admitted, other: Admitted) -> Admitted
+    requires one { one.0.desk ≡ desk.now }
+    requires other { other.0.desk ≡ desk.now }
+    ensures { result.0.desk ≡ desk.now }
+{
+    let (mut seat, m) = one;
+    let (other, n) = other;
+    desk.join(&mut seat, other);
+    (seat, both(m, n))
+}
+
+/// Clients of two threads, a hundred each.
 fn two_hundred<R: Threads + Wait + Sync>(
     rt: &R,
     alloc: Global,
     desk: &Desk<Hub>,
-    one: Seat<Hub>,
-    other: Seat<Hub>,
+    mut seat: Seat<Hub>,
 ) -> Admitted
-    requires one { one.desk ≡ desk.now }
-    requires other { other.desk ≡ desk.now }
+    requires { seat.desk ≡ desk.now }
     ensures { result.0.desk ≡ desk.now }
 {
-    let (a, b) = join(
-        rt,
-        || hundred(rt, alloc, desk, one),
-        || hundred(rt, alloc, desk, other),
-    );
-    let (mut seat, m) = a;
-    let (other, n) = b;
-    desk.join(&mut seat, other);
-    (seat, both(m, n))
+    match desk.split(&mut seat) {
+        Err(e) => (seat, Err(e)),
+        Ok(other) => {
+            let (a, b) = join(
+                rt,
+                || hundred(rt, alloc, desk, seat),
+                || hundred(rt, alloc, desk, other),
+            );
+            joined(desk, a, b)
+        }
+    }
 }
 
+/// Clients of four threads, a hundred each.
 fn four_hundred<R: Threads + Wait + Sync>(
     rt: &R,
     alloc: Global,
     desk: &Desk<Hub>,
-    seats: (Seat<Hub>, Seat<Hub>, Seat<Hub>, Seat<Hub>),
+    mut seat: Seat<Hub>,
 ) -> Admitted
-    requires { (seats.0.desk ≡ desk.now) × (seats.1.desk ≡ desk.now) × (seats.2.desk ≡ desk.now) × (seats.3.desk ≡ desk.now) }
+    requires { seat.desk ≡ desk.now }
     ensures { result.0.desk ≡ desk.now }
 {
-    let (a, b, c, d) = seats;
-    let (left, right) = join(
-        rt,
-        || -> Admitted
-            requires one { a.desk ≡ desk.now }
-            requires other { b.desk ≡ desk.now }
-            ensures { result.0.desk ≡ desk.entry.now }
-        { two_hundred(rt, alloc, desk, a, b) },
-        || -> Admitted
-            requires one { c.desk ≡ desk.now }
-            requires other { d.desk ≡ desk.now }
-            ensures { result.0.desk ≡ desk.entry.now }
-        { two_hundred(rt, alloc, desk, c, d) },
-    );
-    let (mut seat, m) = left;
-    let (other, n) = right;
-    desk.join(&mut seat, other);
-    (seat, both(m, n))
+    match desk.split(&mut seat) {
+        Err(e) => (seat, Err(e)),
+        Ok(other) => {
+            let (a, b) = join(
+                rt,
+                || -> Admitted
+                    requires { seat.desk ≡ desk.now }
+                    ensures { result.0.desk ≡ desk.entry.now }
+                { two_hundred(rt, alloc, desk, seat) },
+                || -> Admitted
+                    requires { other.desk ≡ desk.now }
+                    ensures { result.0.desk ≡ desk.entry.now }
+                { two_hundred(rt, alloc, desk, other) },
+            );
+            joined(desk, a, b)
+        }
+    }
+}
+
+/// How many numbers there are, each of which was given once; the first and the last of them.
+fn all_different(numbers: &[u32], alloc: Global) -> Result<(usize, u32, u32), Fail> {
+    let mut once = BTreeSet::new(alloc);
+    for number in numbers {
+        if !once.insert(*number)? {
+            return Err("a number was given twice")?;
+        }
+    }
+    let first = once.first().copied().unwrap_or(0);
+    let last = once.last().copied().unwrap_or(0);
+    Ok((once.len(), first, last))
 }
 
 #[test]
 fn four_threads_admit_four_hundred(rt: HostRuntime) -> Result<(), Fail> {
-    let alloc = rt.alloc();
-    let (desk, mut a) = Desk::<Hub>::make(alloc, 1_000)?;
-    place(&rt, &desk, &mut a, HubCommand::SetLists(Lists::new(alloc)))?;
-    place(&rt, &desk, &mut a, HubCommand::Update(row(alloc, 1, 0, 1)?))?;
-    let b = desk.split(&mut a)?;
-    let c = desk.split(&mut a)?;
-    let d = desk.split(&mut a)?;
-    let (seat, numbers) = four_hundred(&rt, alloc, &desk, (a, b, c, d));
-    let mut once = BTreeSet::new(alloc);
-    for number in numbers?.as_slice() {
-        assert!(rt; once.insert(*number)?, "{number} was given twice");
-    }
-    assert_eq!(rt; once.len(), 400);
-    assert_eq!(rt; once.first(), Some(&1));
-    assert_eq!(rt; once.last(), Some(&400));
-    match desk.close(seat) {
-        Closed::Whole(_, journal) => assert_eq!(rt; journal.len(), 402),
-        Closed::Held => panic!(rt; "the hub is out"),
-    }
+    let (desk, mut seat) = Desk::<Hub>::make(rt.alloc(), 1_000)?;
+    let places = opened(&rt, rt.alloc(), &desk, &mut seat);
+    let (seat, numbers) = four_hundred(&rt, rt.alloc(), &desk, seat);
+    let entries = match desk.close(seat) {
+        Closed::Whole(hub, journal) => {
+            drop(hub);
+            let entries = journal.len();
+            drop(journal);
+            Some(entries)
+        }
+        Closed::Held => None,
+    };
+    places?;
+    let numbers = numbers?;
+    let seen = all_different(numbers.as_slice(), rt.alloc())?;
+    assert_eq!(rt; seen, (400, 1, 400));
+    assert_eq!(rt; entries, Some(402));
     Ok(())
 }
