@@ -127,9 +127,19 @@ fn begun(alloc: Global) -> Result<Exchange, NoMemory> {
     Exchange::start(alloc, &TransferKey { high: 1, low: 10 }, &params)
 }
 
+/// The same one after these steps.
+fn after(alloc: Global, mut x: Exchange, steps: &[Step<'_>]) -> Result<Exchange, NoMemory> {
+    match go(alloc, &mut x, steps) {
+        Ok(()) => Ok(x),
+        Err(e) => {
+            drop(x);
+            Err(e)
+        }
+    }
+}
+
 /// One whose old pod has replied with a state.
 fn up_to_dial(alloc: Global) -> Result<Exchange, NoMemory> {
-    let mut x = begun(alloc)?;
     let steps = [
         Send,
         Columns(OLD),
@@ -137,30 +147,27 @@ fn up_to_dial(alloc: Global) -> Result<Exchange, NoMemory> {
         Step::Frame(b'C', b"SHOW TRANSFER STATE 1\0"),
         Step::Frame(b'Z', b"I"),
     ];
-    go(alloc, &mut x, &steps)?;
-    Ok(x)
+    after(alloc, begun(alloc)?, &steps)
 }
 
 /// One whose new pod has begun to greet.
 fn up_to_greeting(alloc: Global) -> Result<Exchange, NoMemory> {
-    let mut x = up_to_dial(alloc)?;
-    go(
-        alloc,
-        &mut x,
-        &[Dial(true), Send, Step::Frame(b'R', b"\0\0\0\0")],
-    )?;
-    Ok(x)
+    let steps = [Dial(true), Send, Step::Frame(b'R', b"\0\0\0\0")];
+    after(alloc, up_to_dial(alloc)?, &steps)
 }
 
-fn cut_word(c: &Cut) -> (&str, u32) {
+/// An end, with a number that tells more.
+type End = (&'static str, u32);
+
+fn cut_word(c: &Cut) -> End {
     match c {
         Cut::Unexpected(f) => ("unexpected", f.tag as u32),
         _ => ("cut", 0),
     }
 }
 
-/// What it came to, with a number that tells more.
-fn came_to(x: &Exchange) -> (&str, u32) {
+/// What it came to.
+fn came_to(x: &Exchange) -> End {
     match x.outcome() {
         None => ("goes on", 0),
         Some(Outcome::Moved(Some(key))) => ("moved", key.process),
@@ -181,9 +188,27 @@ fn text(alloc: Global, x: &Exchange) -> Result<Bytes, NoMemory> {
     }
 }
 
+/// What an exchange comes to by these steps.
+fn end_of(alloc: Global, mut x: Exchange, steps: &[Step<'_>]) -> Result<End, NoMemory> {
+    let gone = go(alloc, &mut x, steps);
+    let end = came_to(&x);
+    drop(x);
+    gone?;
+    Ok(end)
+}
+
+/// What an exchange wants to send after these steps.
+fn text_after(alloc: Global, mut x: Exchange, steps: &[Step<'_>]) -> Result<Bytes, NoMemory> {
+    let gone = go(alloc, &mut x, steps);
+    let text = text(alloc, &x);
+    drop(x);
+    gone?;
+    text
+}
+
 #[test]
 fn the_transfer_query(rt: HostRuntime) -> Result<(), Fail> {
-    let query = text(rt.alloc(), &begun(rt.alloc())?)?;
+    let query = text_after(rt.alloc(), begun(rt.alloc())?, &[])?;
     let want = b"Q\0\0\0\x40SHOW TRANSFER STATE WITH '0000000000000001000000000000000a'\0";
     assert_eq!(rt; query.as_slice(), want.as_slice());
     Ok(())
@@ -191,9 +216,7 @@ fn the_transfer_query(rt: HostRuntime) -> Result<(), Fail> {
 
 #[test]
 fn the_startup_packet(rt: HostRuntime) -> Result<(), Fail> {
-    let mut x = up_to_dial(rt.alloc())?;
-    go(rt.alloc(), &mut x, &[Dial(true)])?;
-    let packet = text(rt.alloc(), &x)?;
+    let packet = text_after(rt.alloc(), up_to_dial(rt.alloc())?, &[Dial(true)])?;
     let want = b"\0\0\0\x37\0\x03\0\0user\0u\0crdb:session_revival_token_base64\0dG9r\0\0";
     assert_eq!(rt; packet.as_slice(), want.as_slice());
     Ok(())
@@ -201,9 +224,8 @@ fn the_startup_packet(rt: HostRuntime) -> Result<(), Fail> {
 
 #[test]
 fn the_restore_query(rt: HostRuntime) -> Result<(), Fail> {
-    let mut x = up_to_greeting(rt.alloc())?;
-    go(rt.alloc(), &mut x, &[Step::Frame(b'Z', b"I")])?;
-    let restore = text(rt.alloc(), &x)?;
+    let ready = [Step::Frame(b'Z', b"I")];
+    let restore = text_after(rt.alloc(), up_to_greeting(rt.alloc())?, &ready)?;
     let want = b"Q\0\0\0\x46SELECT crdb_internal.deserialize_session(decode('AQ==','base64'))\0";
     assert_eq!(rt; restore.as_slice(), want.as_slice());
     Ok(())
@@ -211,7 +233,7 @@ fn the_restore_query(rt: HostRuntime) -> Result<(), Fail> {
 
 #[test]
 fn rows_of_an_old_pod(rt: HostRuntime) -> Result<(), Fail> {
-    let rows: [(&[Option<&[u8]>], (&str, u32)); 9] = [
+    let rows: [(&[Option<&[u8]>], End); 9] = [
         (
             &[None, Some(b"AQ=="), Some(b"dG9r"), Some(KEY)],
             ("goes on", 0),
@@ -238,9 +260,8 @@ fn rows_of_an_old_pod(rt: HostRuntime) -> Result<(), Fail> {
         (&[None, Some(b"AQ=="), Some(b"dG9r")], ("unexpected", 68)),
     ];
     for (values, want) in rows {
-        let mut x = begun(rt.alloc())?;
-        go(rt.alloc(), &mut x, &[Send, Columns(OLD), Row(values)])?;
-        assert_eq!(rt; came_to(&x), want);
+        let steps = [Send, Columns(OLD), Row(values)];
+        assert_eq!(rt; end_of(rt.alloc(), begun(rt.alloc())?, &steps)?, want);
     }
     Ok(())
 }
@@ -249,7 +270,7 @@ fn rows_of_an_old_pod(rt: HostRuntime) -> Result<(), Fail> {
 fn ends_with_the_old_pod(rt: HostRuntime) -> Result<(), Fail> {
     let refused = Row(&[Some(b"busy"), Some(b""), Some(b""), Some(KEY)]);
     let tag = Step::Frame(b'C', b"SHOW TRANSFER STATE 1\0");
-    let rows: [(&[Step<'_>], (&str, u32)); 3] = [
+    let rows: [(&[Step<'_>], End); 3] = [
         (&[Step::Cut], ("cut", 0)),
         (&[Send, Columns(OLD), refused, tag], ("goes on", 0)),
         (
@@ -258,19 +279,16 @@ fn ends_with_the_old_pod(rt: HostRuntime) -> Result<(), Fail> {
         ),
     ];
     for (steps, want) in rows {
-        let mut x = begun(rt.alloc())?;
-        go(rt.alloc(), &mut x, steps)?;
-        assert_eq!(rt; came_to(&x), want);
+        assert_eq!(rt; end_of(rt.alloc(), begun(rt.alloc())?, steps)?, want);
     }
-    let mut x = up_to_dial(rt.alloc())?;
-    go(rt.alloc(), &mut x, &[Dial(false)])?;
-    assert_eq!(rt; came_to(&x), ("dial fault", 0));
+    let end = end_of(rt.alloc(), up_to_dial(rt.alloc())?, &[Dial(false)])?;
+    assert_eq!(rt; end, ("dial fault", 0));
     Ok(())
 }
 
 #[test]
 fn ends_with_the_new_pod(rt: HostRuntime) -> Result<(), Fail> {
-    let rows: [(&[Step<'_>], (&str, u32)); 6] = [
+    let rows: [(&[Step<'_>], End); 6] = [
         (&[Step::Cut], ("cut", 0)),
         (&[Step::Frame(b'Z', b"I")], ("goes on", 0)),
         (&[Step::Frame(b'Z', b"T")], ("unexpected", 90)),
@@ -285,16 +303,14 @@ fn ends_with_the_new_pod(rt: HostRuntime) -> Result<(), Fail> {
         (&[Step::Frame(b'E', b"")], ("unexpected", 69)),
     ];
     for (steps, want) in rows {
-        let mut x = up_to_greeting(rt.alloc())?;
-        go(rt.alloc(), &mut x, steps)?;
-        assert_eq!(rt; came_to(&x), want);
+        let end = end_of(rt.alloc(), up_to_greeting(rt.alloc())?, steps)?;
+        assert_eq!(rt; end, want);
     }
     Ok(())
 }
 
 #[test]
 fn a_session_is_moved(rt: HostRuntime) -> Result<(), Fail> {
-    let mut x = up_to_greeting(rt.alloc())?;
     let steps = [
         Step::Frame(b'K', b"\0\0\0\x07\0\0\0\x09"),
         Step::Frame(b'Z', b"I"),
@@ -304,21 +320,27 @@ fn a_session_is_moved(rt: HostRuntime) -> Result<(), Fail> {
         Step::Frame(b'C', b"SELECT 1\0"),
         Step::Frame(b'Z', b"I"),
     ];
-    go(rt.alloc(), &mut x, &steps)?;
-    assert_eq!(rt; came_to(&x), ("moved", 7));
-    assert!(rt; matches!(x.into_outcome(), Some(Outcome::Moved(_))));
+    let x = after(rt.alloc(), up_to_greeting(rt.alloc())?, &steps)?;
+    let end = came_to(&x);
+    let outcome = x.into_outcome();
+    let has_moved = matches!(&outcome, Some(Outcome::Moved(_)));
+    drop(outcome);
+    assert_eq!(rt; end, ("moved", 7));
+    assert!(rt; has_moved);
     Ok(())
 }
 
 #[test]
 fn limits_of_a_greeting(rt: HostRuntime) -> Result<(), Fail> {
-    let status = [Step::Frame(b'S', b"a\0b\0")];
-    let mut x = up_to_greeting(rt.alloc())?;
+    let status = Step::Frame(b'S', b"a\0b\0");
+    let mut steps = Vec::new(rt.alloc());
     for _ in 0..1000 {
-        go(rt.alloc(), &mut x, &status)?;
+        steps.push(status)?;
     }
-    assert_eq!(rt; came_to(&x), ("goes on", 0));
-    go(rt.alloc(), &mut x, &status)?;
-    assert_eq!(rt; came_to(&x), ("unexpected", 83));
+    let end = end_of(rt.alloc(), up_to_greeting(rt.alloc())?, steps.as_slice())?;
+    assert_eq!(rt; end, ("goes on", 0));
+    steps.push(status)?;
+    let end = end_of(rt.alloc(), up_to_greeting(rt.alloc())?, steps.as_slice())?;
+    assert_eq!(rt; end, ("unexpected", 83));
     Ok(())
 }
