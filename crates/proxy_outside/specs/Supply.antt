@@ -20,9 +20,9 @@ pub record Store : Type 0 where
   pub calls : ℕ
   pub faults : ℕ
 
--- the number of the next call, counted from 1
-abbrev pub next_call : ℕ → ℕ
-next_call calls = min (calls + 1) (2 ^ 64 - 1)
+-- a count that is one more, or stands at its type's end
+abbrev pub raised : ℕ → ℕ
+raised count = min (count + 1) (2 ^ 64 - 1)
 
 abbrev pub is_listed : ℕ → List ℕ → Bool
 is_listed call calls = list_any (λ c. c == call) calls

@@ -2,7 +2,7 @@
 
 ghost use Rattle.std.specs.Prelude.{◌≡◌, ◌≤◌, ◌<◌, [], length, IfOk};
 ghost use Rattle.proxy_outside.specs.Writing.{Writes};
-ghost use Rattle.proxy_outside.specs.MemSink.{target_of, WritesAsListed};
+ghost use Rattle.proxy_outside.specs.MemSink.{target_of, after_write, WritesAsListed};
 
 use crate::sink::{Gave, Sink};
 use pgw_frames::{Bytes, NoMemory};
@@ -60,6 +60,7 @@ impl Sink for MemSink {
         requires { 0 < length bytes.now }
         ensures writes { Writes result (target_of self.old) (target_of self.new) bytes.now }
         ensures listed { WritesAsListed result self.old bytes.now }
+        ensures next { self.new ≡ after_write result self.old bytes.now }
     {
         self.calls = self.calls.saturating_add(1);
         if self.failing.as_slice().contains(&self.calls) {

@@ -2,7 +2,7 @@
 
 ghost use Rattle.std.specs.Prelude.{◌≡◌, ◌≤◌, ◌<◌, ◌+◌, take, drop, length, IfOk, false};
 ghost use Rattle.proxy_outside.specs.Reading.{Reads};
-ghost use Rattle.proxy_outside.specs.MemSource.{origin_of, ReadsAsListed};
+ghost use Rattle.proxy_outside.specs.MemSource.{origin_of, after_read, ReadsAsListed};
 
 use crate::source::{Source, Took};
 use pgw_frames::{Bytes, NoMemory};
@@ -76,7 +76,8 @@ impl Source for MemSource {
     fn read(&mut self, buf: &mut [u8]) -> Took
         requires { 0 < length buf.old }
         ensures reads { Reads result (origin_of self.old) (origin_of self.new) buf.old buf.new }
-        ensures listed { ReadsAsListed result self.old }
+        ensures listed { ReadsAsListed result self.old buf.old }
+        ensures next { self.new ≡ after_read result self.old }
     {
         if self.ended {
             return Took::End;

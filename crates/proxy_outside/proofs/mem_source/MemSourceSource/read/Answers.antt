@@ -21,6 +21,7 @@ returns-clause-reads c =
       );
       after_end = search rules;
       stays_ended = search rules;
+      only_end = search rules;
       faults = omega arith;
       waits = omega arith;
       link = refl;
