@@ -14,3 +14,5 @@ pub mod BackLaws
 pub mod ParamsAgain
 pub mod CanBeWritten
 pub mod Taken
+pub mod PlacesLemmas
+pub mod Written

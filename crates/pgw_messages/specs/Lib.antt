@@ -2,6 +2,7 @@ pub mod Faults
 pub mod Reading
 pub mod Spelling
 pub mod Params
+pub mod Places
 pub mod Startup
 pub mod Fields
 pub mod Frontend

@@ -6,7 +6,7 @@ use Rattle.std.specs.List.{flat_map}
 use Rattle.pgw_messages.specs.declared.params.Pair.{Pair}
 use Rattle.pgw_messages.specs.declared.fault.MsgFault.{MsgFault}
 use Rattle.pgw_messages.specs.Params.{put_all}
-use Rattle.pgw_messages.specs.Spelling.{IsText}
+use Rattle.pgw_messages.specs.Spelling.{HasNoZero, IsText}
 use Rattle.pgw_messages.specs.Reading.{Read, ◌>>=◌, text_at, ended_at, whole}
 
 abbrev pub pair_bytes : Pair → List ℕ
@@ -52,3 +52,9 @@ params_of b = whole (pairs_at b)
 pub record IsParam (q : Pair) : Type 0 where
   pub some : 0 < length q.name
   pub pair : IsPair q
+
+-- a pair that can be told from the end of the packet, and whose texts end where they end
+pub record CanWriteParam (q : Pair) : Type 0 where
+  pub some : 0 < length q.name
+  pub name : HasNoZero q.name
+  pub value : HasNoZero q.value

@@ -19,10 +19,14 @@ pub(crate) trait Item: Drop {
     /// The item's bytes.
     ghost bytes: { Self → List ℕ };
 
+    /// What is so of each item that is written, for it to be read again.
+    ghost IsGood: { Self → Type 0 };
+
     fn read(r: &mut Reader<'_>) -> Result<Self, MsgFault>
         ensures { Reads result r.new (at r.old) };
 
     fn write(&self, w: &mut Writer) -> Result<(), NoMemory>
         requires { length (bytes self.now) ≤ MOST_BODY }
-        ensures { OnOk result (w.new ≡ w.old ++ bytes self.now) };
+        ensures bytes { OnOk result (w.new ≡ w.old ++ bytes self.now) }
+        ensures good { OnOk result (IsGood self.now) };
 }

@@ -14,6 +14,7 @@
 mod backend;
 mod fault;
 mod frontend;
+mod gathering;
 mod item;
 mod items;
 mod laws;

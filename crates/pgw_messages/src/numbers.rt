@@ -1,5 +1,6 @@
 //! Lists of numbers.
 
+ghost use Rattle.std.specs.Prelude.{◌<◌, ◌^◌};
 ghost use Rattle.std.specs.Int.{w16, w32, to_be_bytes};
 ghost use Rattle.pgw_messages.specs.Reading.{number_at};
 
@@ -21,6 +22,8 @@ impl Item for u16 {
 
     ghost bytes = { to_be_bytes w16 };
 
+    ghost IsGood = { λ n. n < 2 ^ 16 };
+
     fn read(r: &mut Reader<'_>) -> Result<u16, MsgFault> {
         r.u16()
     }
@@ -34,6 +37,8 @@ impl Item for u32 {
     ghost at = { number_at w32 };
 
     ghost bytes = { to_be_bytes w32 };
+
+    ghost IsGood = { λ n. n < 2 ^ 32 };
 
     fn read(r: &mut Reader<'_>) -> Result<u32, MsgFault> {
         r.u32()

@@ -2,7 +2,8 @@
 
 ghost use Rattle.std.specs.Prelude.{◌≡◌, ◌++◌, OnOk};
 ghost use Rattle.pgw_messages.specs.Reading.{Reads};
-ghost use Rattle.pgw_messages.specs.Startup.{pair_at, pair_bytes};
+ghost use Rattle.pgw_messages.specs.Startup.{pair_at, pair_bytes, IsPair};
+ghost use Rattle.pgw_messages.specs.Spelling.{HasNoZero};
 
 use crate::fault::MsgFault;
 use crate::params::Pair;
@@ -20,7 +21,8 @@ impl Pair {
     }
 
     pub(crate) fn write(&self, w: &mut Writer) -> Result<(), NoMemory>
-        ensures { OnOk result (w.new ≡ w.old ++ pair_bytes self.now) }
+        ensures bytes { OnOk result (w.new ≡ w.old ++ pair_bytes self.now) }
+        ensures good { OnOk result (HasNoZero self.now.name → HasNoZero self.now.value → IsPair self.now) }
     {
         w.text(&self.name)?;
         w.text(&self.value)?;

@@ -1,9 +1,12 @@
 //! The parameters of a session.
 
-ghost use Rattle.std.specs.Prelude.{◌≡◌, ◌==◌, [], length, position, slice_get, IfOk, OnOk, OnErr};
+ghost use Rattle.std.specs.Prelude.{◌≡◌, ◌==◌, ◌++◌, [], length, position, slice_get, IfOk, OnOk, OnErr};
+ghost use Rattle.std.specs.List.{flat_map, AllByRecursion};
 ghost use Rattle.std.specs.Option.{option_copied};
-ghost use Rattle.pgw_messages.specs.Params.{value_of, with_value, without, is_named};
+ghost use Rattle.pgw_messages.specs.Params.{value_of, with_value, without, is_named, HasDistinctNames};
+ghost use Rattle.pgw_messages.specs.Startup.{pair_bytes, IsParam, CanWriteParam};
 
+use crate::writer::Writer;
 use pgw_frames::{NoMemory, Text};
 use std::alloc::Global;
 use std::marker::Model;
@@ -67,9 +70,24 @@ impl Params {
         ensures ok { OnOk result (self.new ≡ with_value name.now value.now self.old) }
         ensures err { OnErr result (self.new ≡ self.old) }
     {
+        let place = place_of(self.as_slice(), name);
+        self.put_at(place, name, value)
+    }
+
+    /// The same, where it is known at which place the name stands, if it is there.
+    pub(crate) fn put_at(
+        &mut self,
+        place: Option<usize>,
+        name: &str,
+        value: &str,
+    ) -> Result<(), NoMemory>
+        requires { place ≡ position (is_named name.now) self.old }
+        ensures ok { OnOk result (self.new ≡ with_value name.now value.now self.old) }
+        ensures err { OnErr result (self.new ≡ self.old) }
+    {
         let alloc = *self.pairs.allocator();
         let value = Text::of(alloc, value)?;
-        match place_of(self.pairs.as_slice(), name) {
+        match place {
             Some(i) => {
                 self.pairs[i].value = value;
                 Ok(())
@@ -98,7 +116,8 @@ impl Params {
     }
 
     pub fn len(&self) -> usize
-        ensures { result ≡ length self.now }
+        ensures value { result ≡ length self.now }
+        ensures distinct { HasDistinctNames self.now }
     {
         self.pairs.len()
     }
@@ -120,6 +139,18 @@ impl Params {
         ensures { result.now ≡ self.now }
     {
         self.pairs.as_slice()
+    }
+
+    /// Writes the pairs in order.
+    pub(crate) fn write(&self, w: &mut Writer) -> Result<(), NoMemory>
+        ensures bytes { OnOk result (w.new ≡ w.old ++ flat_map pair_bytes self.now) }
+        ensures good { OnOk result (AllByRecursion (λ q. CanWriteParam q → IsParam q) self.now) }
+        ensures distinct { HasDistinctNames self.now }
+    {
+        for pair in &self.pairs {
+            pair.write(w)?;
+        }
+        Ok(())
     }
 
     /// A copy of the parameters.

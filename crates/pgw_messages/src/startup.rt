@@ -1,11 +1,13 @@
 //! The startup packet. PostgreSQL manual, "Message Formats", StartupMessage.
 
-ghost use Rattle.std.specs.Prelude.{◌≡◌, ◌++◌, OnOk, IfOk};
-ghost use Rattle.std.specs.List.{flat_map};
+ghost use Rattle.std.specs.Prelude.{◌≡◌, ◌++◌, drop, Ok, OnOk, IfOk};
+ghost use Rattle.std.specs.List.{flat_map, AllByRecursion};
+ghost use Rattle.pgw_messages.specs.Params.{HasDistinctNames};
 ghost use Rattle.pgw_messages.specs.Reading.{Gives, Reads};
-ghost use Rattle.pgw_messages.specs.Startup.{Fits, startup_packet, startup_body, pair_bytes, pairs_at, params_of};
+ghost use Rattle.pgw_messages.specs.Startup.{Fits, CanWriteParam, IsParam, startup_packet, startup_body, pair_bytes, pairs_at, params_of};
 
 use crate::fault::MsgFault;
+use crate::gathering::Gathering;
 use crate::params::Params;
 use crate::reader::Reader;
 use crate::writer::Writer;
@@ -19,17 +21,18 @@ const VERSION: u32 = 196_608;
 fn read_pairs(r: &mut Reader<'_>) -> Result<Params, MsgFault>
     ensures { Reads result r.new (pairs_at r.old) }
 {
-    let mut params = Params::new(r.allocator());
+    let mut params = Gathering::new(r.allocator());
     while !r.ends()? {
         let name = r.str()?;
         let value = r.str()?;
-        params.put(name, value)?;
+        params = params.with(name, value)?;
     }
-    Ok(params)
+    Ok(params.into_params())
 }
 
 /// Reads the parameters of a startup packet from the bytes behind its version: zero-ended names and
 /// values, and a zero byte. A name that comes again keeps its first place and takes the later value.
+/// The time grows little faster than the bytes, whatever the names are.
 /// `Short`, `NotText` and `Trailing` say what stands there first in place of that.
 #[tactic(auto, unfolding(crate::specs::Startup::params_of))]
 pub fn read_params(alloc: Global, body: &[u8]) -> Result<Params, MsgFault>
@@ -42,22 +45,24 @@ pub fn read_params(alloc: Global, body: &[u8]) -> Result<Params, MsgFault>
 }
 
 fn write_body(alloc: Global, p: &Params) -> Result<Bytes, NoMemory>
-    ensures { IfOk result (λ b. b ≡ startup_body p.now) }
+    ensures bytes { IfOk result (λ b. b ≡ startup_body p.now) }
+    ensures good { OnOk result (AllByRecursion (λ q. CanWriteParam q → IsParam q) p.now) }
+    ensures distinct { OnOk result (HasDistinctNames p.now) }
 {
     let mut body = Writer::new(alloc);
     body.u32(VERSION)?;
-    for pair in p.as_slice() {
-        pair.write(&mut body)?;
-    }
+    p.write(&mut body)?;
     body.u8(0)?;
     Ok(body.into_bytes())
 }
 
-/// The startup packet of these parameters, at most 11,900,000 bytes.
+/// The startup packet of these parameters, at most 11,900,000 bytes. Behind its length and version it
+/// is read as these parameters, where no name is empty and no text has a zero byte.
 #[tactic(auto, unfolding(crate::specs::Startup::startup_packet))]
 pub fn startup_bytes(alloc: Global, p: &Params) -> Result<Bytes, NoMemory>
     requires { Fits p.now }
-    ensures { IfOk result (λ b. b ≡ startup_packet p.now) }
+    ensures value { IfOk result (λ b. b ≡ startup_packet p.now) }
+    ensures again { AllByRecursion CanWriteParam p.now → IfOk result (λ b. params_of (drop 8 b) ≡ Ok p.now) }
 {
     let body = write_body(alloc, p)?;
     let len = body.len() as u32 + 4;

@@ -1,7 +1,7 @@
 //! Values of a row, and of the parameters of a statement.
 
 ghost use Rattle.pgw_messages.specs.Reading.{value_at};
-ghost use Rattle.pgw_messages.specs.Spelling.{value_bytes};
+ghost use Rattle.pgw_messages.specs.Spelling.{value_bytes, IsValue};
 
 use crate::fault::MsgFault;
 use crate::item::Item;
@@ -17,6 +17,8 @@ impl Item for Option<Bytes> {
     ghost at = { value_at };
 
     ghost bytes = { value_bytes };
+
+    ghost IsGood = { IsValue };
 
     fn read(r: &mut Reader<'_>) -> Result<Option<Bytes>, MsgFault> {
         r.value()

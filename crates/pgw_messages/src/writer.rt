@@ -3,7 +3,7 @@
 ghost use Rattle.std.specs.Prelude.{◌≡◌, ◌≤◌, [], ◌∷◌, ◌++◌, length, OnOk};
 ghost use Rattle.std.specs.Int.{w16, w32, to_be_bytes};
 ghost use Rattle.std.specs.List.{flat_map};
-ghost use Rattle.pgw_messages.specs.Spelling.{text_bytes, signed_bytes, value_bytes, list_bytes};
+ghost use Rattle.pgw_messages.specs.Spelling.{text_bytes, signed_bytes, value_bytes, list_bytes, HasNoZero, IsText, IsValue, IsList};
 
 use crate::item::Item;
 use crate::items::Items;
@@ -79,7 +79,8 @@ impl Writer {
 
     /// A text and its zero byte.
     pub(crate) fn text(&mut self, t: &Text) -> Result<(), NoMemory>
-        ensures { OnOk result (self.new ≡ self.old ++ text_bytes t.now) }
+        ensures bytes { OnOk result (self.new ≡ self.old ++ text_bytes t.now) }
+        ensures good { OnOk result (HasNoZero t.now → IsText t.now) }
     {
         self.bytes(t.as_str().as_bytes())?;
         self.u8(0)?;
@@ -89,7 +90,8 @@ impl Writer {
     /// The length of a value and the value, or -1 for NULL.
     pub(crate) fn value(&mut self, v: &Option<Bytes>) -> Result<(), NoMemory>
         requires { length (value_bytes v.now) ≤ MOST_BODY }
-        ensures { OnOk result (self.new ≡ self.old ++ value_bytes v.now) }
+        ensures bytes { OnOk result (self.new ≡ self.old ++ value_bytes v.now) }
+        ensures good { IsValue v.now }
     {
         let Some(value) = v else {
             return self.i32(-1);
@@ -103,7 +105,8 @@ impl Writer {
     pub(crate) fn list<T: Item>(&mut self, items: &Items<T>) -> Result<(), NoMemory>
         requires count { length items.now ≤ 65535 }
         requires room { length (flat_map T.bytes items.now) ≤ MOST_BODY }
-        ensures { OnOk result (self.new ≡ self.old ++ list_bytes T.bytes items.now) }
+        ensures bytes { OnOk result (self.new ≡ self.old ++ list_bytes T.bytes items.now) }
+        ensures good { OnOk result (IsList T.IsGood items.now) }
     {
         self.u16(items.len() as u16)?;
         for item in items.as_slice() {

@@ -2,7 +2,7 @@
 
 ghost use Rattle.std.specs.Prelude.{◌≡◌, ◌++◌, OnOk};
 ghost use Rattle.pgw_messages.specs.Reading.{Reads};
-ghost use Rattle.pgw_messages.specs.Backend.{auth_at, auth_bytes};
+ghost use Rattle.pgw_messages.specs.Backend.{auth_at, auth_bytes, IsAuth};
 
 use crate::fault::MsgFault;
 use crate::reader::Reader;
@@ -29,7 +29,8 @@ impl AuthMsg {
     }
 
     pub(crate) fn write(&self, w: &mut Writer) -> Result<(), NoMemory>
-        ensures { OnOk result (w.new ≡ w.old ++ auth_bytes self.now) }
+        ensures bytes { OnOk result (w.new ≡ w.old ++ auth_bytes self.now) }
+        ensures good { IsAuth self.now }
     {
         w.u32(self.code)?;
         w.bytes(self.rest.as_slice())?;

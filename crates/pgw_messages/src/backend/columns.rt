@@ -1,6 +1,7 @@
 //! RowDescription.
 
-ghost use Rattle.pgw_messages.specs.Backend.{column_at, column_bytes};
+ghost use Rattle.pgw_messages.specs.Backend.{column_at, column_bytes, IsColumn};
+ghost use Rattle.pgw_messages.specs.Spelling.{HasNoZero};
 
 use crate::fault::MsgFault;
 use crate::item::Item;
@@ -34,6 +35,8 @@ impl Item for Column {
     ghost at = { column_at };
 
     ghost bytes = { column_bytes };
+
+    ghost IsGood = { λ c. HasNoZero c.name → IsColumn c };
 
     fn read(r: &mut Reader<'_>) -> Result<Column, MsgFault> {
         let name = r.text()?;

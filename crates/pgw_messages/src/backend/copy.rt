@@ -2,7 +2,7 @@
 
 ghost use Rattle.std.specs.Prelude.{◌≡◌, ◌≤◌, ◌++◌, length, OnOk};
 ghost use Rattle.pgw_messages.specs.Reading.{Reads};
-ghost use Rattle.pgw_messages.specs.Backend.{copy_at, copy_bytes};
+ghost use Rattle.pgw_messages.specs.Backend.{copy_at, copy_bytes, IsCopy};
 
 use crate::fault::MsgFault;
 use crate::numbers::Formats;
@@ -31,7 +31,8 @@ impl CopyMsg {
     pub(crate) fn write(&self, w: &mut Writer) -> Result<(), NoMemory>
         requires count { length self.now.formats ≤ 65535 }
         requires room { length (copy_bytes self.now) ≤ MOST_BODY }
-        ensures { OnOk result (w.new ≡ w.old ++ copy_bytes self.now) }
+        ensures bytes { OnOk result (w.new ≡ w.old ++ copy_bytes self.now) }
+        ensures good { OnOk result (IsCopy self.now) }
     {
         w.u8(self.format)?;
         w.list(&self.formats)?;

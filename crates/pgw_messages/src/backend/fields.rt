@@ -3,7 +3,8 @@
 
 ghost use Rattle.std.specs.Prelude.{◌≡◌, ◌++◌, OnOk};
 ghost use Rattle.pgw_messages.specs.Reading.{Reads};
-ghost use Rattle.pgw_messages.specs.Fields.{field_at, field_bytes, fields_at, fields_bytes};
+ghost use Rattle.pgw_messages.specs.Fields.{field_at, field_bytes, fields_at, fields_bytes, IsField, CanWriteField};
+ghost use Rattle.std.specs.List.{AllByRecursion};
 
 use crate::fault::MsgFault;
 use crate::items::Items;
@@ -42,7 +43,8 @@ pub(crate) fn read_fields(r: &mut Reader<'_>) -> Result<Fields, MsgFault>
 }
 
 fn write_field(field: &Field, w: &mut Writer) -> Result<(), NoMemory>
-    ensures { OnOk result (w.new ≡ w.old ++ field_bytes field.now) }
+    ensures bytes { OnOk result (w.new ≡ w.old ++ field_bytes field.now) }
+    ensures good { OnOk result (CanWriteField field.now → IsField field.now) }
 {
     w.u8(field.code)?;
     w.text(&field.value)?;
@@ -50,7 +52,8 @@ fn write_field(field: &Field, w: &mut Writer) -> Result<(), NoMemory>
 }
 
 pub(crate) fn write_fields(fields: &Fields, w: &mut Writer) -> Result<(), NoMemory>
-    ensures { OnOk result (w.new ≡ w.old ++ fields_bytes fields.now) }
+    ensures bytes { OnOk result (w.new ≡ w.old ++ fields_bytes fields.now) }
+    ensures good { OnOk result (AllByRecursion (λ f. CanWriteField f → IsField f) fields.now) }
 {
     for field in fields.as_slice() {
         write_field(field, w)?;

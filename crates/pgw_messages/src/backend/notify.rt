@@ -2,7 +2,8 @@
 
 ghost use Rattle.std.specs.Prelude.{◌≡◌, ◌++◌, OnOk};
 ghost use Rattle.pgw_messages.specs.Reading.{Reads};
-ghost use Rattle.pgw_messages.specs.Backend.{notify_at, notify_bytes};
+ghost use Rattle.pgw_messages.specs.Backend.{notify_at, notify_bytes, IsNotify};
+ghost use Rattle.pgw_messages.specs.Spelling.{HasNoZero};
 
 use crate::fault::MsgFault;
 use crate::reader::Reader;
@@ -33,7 +34,8 @@ impl NotifyMsg {
     }
 
     pub(crate) fn write(&self, w: &mut Writer) -> Result<(), NoMemory>
-        ensures { OnOk result (w.new ≡ w.old ++ notify_bytes self.now) }
+        ensures bytes { OnOk result (w.new ≡ w.old ++ notify_bytes self.now) }
+        ensures good { OnOk result (HasNoZero self.now.channel → HasNoZero self.now.payload → IsNotify self.now) }
     {
         w.u32(self.process)?;
         w.text(&self.channel)?;

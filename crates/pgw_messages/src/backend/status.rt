@@ -2,7 +2,7 @@
 
 ghost use Rattle.std.specs.Prelude.{◌≡◌, ◌++◌, OnOk};
 ghost use Rattle.pgw_messages.specs.Reading.{Reads};
-ghost use Rattle.pgw_messages.specs.Backend.{key_at, key_bytes, ready_at};
+ghost use Rattle.pgw_messages.specs.Backend.{key_at, key_bytes, ready_at, IsKey};
 
 use crate::fault::MsgFault;
 use crate::pod_key::PodKey;
@@ -19,7 +19,8 @@ pub(crate) fn read_key(r: &mut Reader<'_>) -> Result<PodKey, MsgFault>
 }
 
 pub(crate) fn write_key(key: &PodKey, w: &mut Writer) -> Result<(), NoMemory>
-    ensures { OnOk result (w.new ≡ w.old ++ key_bytes key.now) }
+    ensures bytes { OnOk result (w.new ≡ w.old ++ key_bytes key.now) }
+    ensures good { OnOk result (IsKey key.now) }
 {
     w.u32(key.process)?;
     w.u32(key.secret)?;

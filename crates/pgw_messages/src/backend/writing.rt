@@ -1,7 +1,7 @@
 //! Writing a server's messages.
 
-ghost use Rattle.std.specs.Prelude.{◌≡◌, ◌++◌, OnOk, IfOk};
-ghost use Rattle.pgw_messages.specs.Backend.{CanWriteBack, back_tag, back_body, back_frame};
+ghost use Rattle.std.specs.Prelude.{◌≡◌, ◌++◌, Ok, OnOk, IfOk};
+ghost use Rattle.pgw_messages.specs.Backend.{CanWriteBack, IsBack, back_of, back_tag, back_body, back_frame};
 
 use crate::backend::fields::write_fields;
 use crate::backend::message::BackMsg;
@@ -37,7 +37,8 @@ fn tag_of(m: &BackMsg) -> u8
 
 fn write_body(m: &BackMsg, w: &mut Writer) -> Result<(), NoMemory>
     requires { CanWriteBack m.now }
-    ensures { OnOk result (w.new ≡ w.old ++ back_body m.now) }
+    ensures bytes { OnOk result (w.new ≡ w.old ++ back_body m.now) }
+    ensures good { OnOk result (IsBack m.now) }
 {
     match m {
         BackMsg::Auth(auth) => auth.write(w),
@@ -65,7 +66,10 @@ fn write_body(m: &BackMsg, w: &mut Writer) -> Result<(), NoMemory>
 /// letters, and no field's code is 0.
 pub fn write_back(alloc: Global, m: &BackMsg) -> Result<Frame, NoMemory>
     requires { CanWriteBack m.now }
-    ensures { IfOk result (λ f. f ≡ back_frame m.now) }
+    // Which frame it is.
+    ensures value { IfOk result (λ f. f ≡ back_frame m.now) }
+    // It is read as this message.
+    ensures again { IfOk result (λ f. back_of f ≡ Ok m.now) }
 {
     let mut body = Writer::new(alloc);
     write_body(m, &mut body)?;

@@ -2,7 +2,8 @@
 
 ghost use Rattle.std.specs.Prelude.{◌≡◌, ◌≤◌, ◌++◌, length, OnOk};
 ghost use Rattle.pgw_messages.specs.Reading.{Reads};
-ghost use Rattle.pgw_messages.specs.Frontend.{bind_at, bind_bytes};
+ghost use Rattle.pgw_messages.specs.Frontend.{bind_at, bind_bytes, IsBind};
+ghost use Rattle.pgw_messages.specs.Spelling.{HasNoZero};
 
 use crate::fault::MsgFault;
 use crate::numbers::Formats;
@@ -48,7 +49,8 @@ impl BindMsg {
         requires values { length self.now.values ≤ 65535 }
         requires results { length self.now.results ≤ 65535 }
         requires room { length (bind_bytes self.now) ≤ MOST_BODY }
-        ensures { OnOk result (w.new ≡ w.old ++ bind_bytes self.now) }
+        ensures bytes { OnOk result (w.new ≡ w.old ++ bind_bytes self.now) }
+        ensures good { OnOk result (HasNoZero self.now.portal → HasNoZero self.now.statement → IsBind self.now) }
     {
         w.text(&self.portal)?;
         w.text(&self.statement)?;

@@ -2,7 +2,8 @@
 
 ghost use Rattle.std.specs.Prelude.{◌≡◌, ◌++◌, OnOk};
 ghost use Rattle.pgw_messages.specs.Reading.{Reads};
-ghost use Rattle.pgw_messages.specs.Frontend.{execute_at, execute_bytes};
+ghost use Rattle.pgw_messages.specs.Frontend.{execute_at, execute_bytes, IsExecute};
+ghost use Rattle.pgw_messages.specs.Spelling.{HasNoZero};
 
 use crate::fault::MsgFault;
 use crate::reader::Reader;
@@ -28,7 +29,8 @@ impl ExecuteMsg {
     }
 
     pub(crate) fn write(&self, w: &mut Writer) -> Result<(), NoMemory>
-        ensures { OnOk result (w.new ≡ w.old ++ execute_bytes self.now) }
+        ensures bytes { OnOk result (w.new ≡ w.old ++ execute_bytes self.now) }
+        ensures good { OnOk result (HasNoZero self.now.portal → IsExecute self.now) }
     {
         w.text(&self.portal)?;
         w.u32(self.most)?;

@@ -2,7 +2,8 @@
 
 ghost use Rattle.std.specs.Prelude.{◌≡◌, ◌≤◌, ◌++◌, length, OnOk};
 ghost use Rattle.pgw_messages.specs.Reading.{Reads};
-ghost use Rattle.pgw_messages.specs.Frontend.{parse_at, parse_bytes};
+ghost use Rattle.pgw_messages.specs.Frontend.{parse_at, parse_bytes, IsParse};
+ghost use Rattle.pgw_messages.specs.Spelling.{HasNoZero};
 
 use crate::fault::MsgFault;
 use crate::numbers::Types;
@@ -33,7 +34,8 @@ impl ParseMsg {
     pub(crate) fn write(&self, w: &mut Writer) -> Result<(), NoMemory>
         requires count { length self.now.types ≤ 65535 }
         requires room { length (parse_bytes self.now) ≤ MOST_BODY }
-        ensures { OnOk result (w.new ≡ w.old ++ parse_bytes self.now) }
+        ensures bytes { OnOk result (w.new ≡ w.old ++ parse_bytes self.now) }
+        ensures good { OnOk result (HasNoZero self.now.name → HasNoZero self.now.query → IsParse self.now) }
     {
         w.text(&self.name)?;
         w.text(&self.query)?;

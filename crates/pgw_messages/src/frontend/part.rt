@@ -1,8 +1,9 @@
 //! What Describe and Close name.
 
-ghost use Rattle.std.specs.Prelude.{◌≡◌, ◌++◌, OnOk};
+ghost use Rattle.std.specs.Prelude.{◌≡◌, ◌++◌, true, OnOk};
 ghost use Rattle.pgw_messages.specs.Reading.{Reads};
-ghost use Rattle.pgw_messages.specs.Frontend.{part_at, part_bytes};
+ghost use Rattle.pgw_messages.specs.Frontend.{part_at, part_bytes, is_part, IsPart};
+ghost use Rattle.pgw_messages.specs.Spelling.{HasNoZero};
 
 use crate::fault::MsgFault;
 use crate::reader::Reader;
@@ -31,7 +32,8 @@ impl Part {
     }
 
     pub(crate) fn write(&self, w: &mut Writer) -> Result<(), NoMemory>
-        ensures { OnOk result (w.new ≡ w.old ++ part_bytes self.now) }
+        ensures bytes { OnOk result (w.new ≡ w.old ++ part_bytes self.now) }
+        ensures good { OnOk result (is_part self.now.kind ≡ true → HasNoZero self.now.name → IsPart self.now) }
     {
         w.u8(self.kind)?;
         w.text(&self.name)?;

@@ -1,7 +1,7 @@
 //! Writing a client's messages.
 
-ghost use Rattle.std.specs.Prelude.{◌≡◌, ◌++◌, OnOk, IfOk};
-ghost use Rattle.pgw_messages.specs.Frontend.{CanWriteFront, front_tag, front_body, front_frame};
+ghost use Rattle.std.specs.Prelude.{◌≡◌, ◌++◌, Ok, OnOk, IfOk};
+ghost use Rattle.pgw_messages.specs.Frontend.{CanWriteFront, IsFront, front_of, front_tag, front_body, front_frame};
 
 use crate::frontend::message::FrontMsg;
 use crate::writer::Writer;
@@ -31,7 +31,8 @@ fn tag_of(m: &FrontMsg) -> u8
 
 fn write_body(m: &FrontMsg, w: &mut Writer) -> Result<(), NoMemory>
     requires { CanWriteFront m.now }
-    ensures { OnOk result (w.new ≡ w.old ++ front_body m.now) }
+    ensures bytes { OnOk result (w.new ≡ w.old ++ front_body m.now) }
+    ensures good { OnOk result (IsFront m.now) }
 {
     match m {
         FrontMsg::Query(text) | FrontMsg::CopyFail(text) => w.text(text),
@@ -50,7 +51,10 @@ fn write_body(m: &FrontMsg, w: &mut Writer) -> Result<(), NoMemory>
 /// byte, each list at most 65,535 items, and `kind` is one of its letters.
 pub fn write_front(alloc: Global, m: &FrontMsg) -> Result<Frame, NoMemory>
     requires { CanWriteFront m.now }
-    ensures { IfOk result (λ f. f ≡ front_frame m.now) }
+    // Which frame it is.
+    ensures value { IfOk result (λ f. f ≡ front_frame m.now) }
+    // It is read as this message.
+    ensures again { IfOk result (λ f. front_of f ≡ Ok m.now) }
 {
     let mut body = Writer::new(alloc);
     write_body(m, &mut body)?;

@@ -28,9 +28,13 @@ fn the_startup_packet(rt: HostRuntime) -> Result<(), Fail> {
 
 #[test]
 fn parameters_with_a_name_twice(rt: HostRuntime) -> Result<(), Fail> {
-    let p = read_params(rt.alloc(), b"user\0a\0user\0b\0\0")?;
-    assert_eq!(rt; p.len(), 1);
-    assert_eq!(rt; p.value("user").map(|v| v == "b"), Some(true));
+    let p = read_params(
+        rt.alloc(),
+        b"user\0a\0database\0d\0user\0b\0database\0e\0\0",
+    )?;
+    assert_eq!(rt; p.len(), 2);
+    assert_eq!(rt; p.get(0).map(|q| q.value.as_str() == "b"), Some(true));
+    assert_eq!(rt; p.get(1).map(|q| q.value.as_str() == "e"), Some(true));
     Ok(())
 }
 

@@ -11,5 +11,5 @@ loop-params-smaller c =
 
 pub loop-params-preserved : goal.loop-params-preserved
 loop-params-preserved c =
-    rw c.in_ok-put.ensures.ok (pair_goes_on c.loop-params.params c.loop-params.r c.ends.new.self c.in_ok-name.name.now c.str.new.self c.in_ok-value.value.now c.str-in-loop-params.new.self c.in_ok-ends.field-0 (pairs_at c.args.r.now)
+    rw c.in_ok-params.ensures (pair_goes_on c.loop-params.params c.loop-params.r c.ends.new.self c.in_ok-name.name.now c.str.new.self c.in_ok-value.value.now c.str-in-loop-params.new.self c.in_ok-ends.field-0 (pairs_at c.args.r.now)
     c.loop-params.invariant c.in_ok-ends.ensures c.if-not-branch.true c.in_ok-name.ensures c.in_ok-value.ensures)
