@@ -34,7 +34,7 @@ const ROUNDS: u64 = @ROUNDS@;
 
 /// Eight letters that differ for different numbers, in no order.
 fn name(i: u64) -> [u8; 8] {
-    let mixed = (i as u32).wrapping_mul(0x9e37_79b1).to_be_bytes();
+    let mixed = ((i & 0xffff_ffff) as u32).wrapping_mul(0x9e37_79b1).to_be_bytes();
     let [a, b, c, d] = mixed;
     let half = |b: u8| b'a' + b / 16;
     let rest = |b: u8| b'a' + b % 16;
@@ -46,7 +46,7 @@ fn packet(alloc: Global, count: u64, differ: bool) -> Result<Vec<u8>, NoMemory> 
     let mut body = Vec::new(alloc);
     for i in 0..count {
         let number = if differ { i } else { 0 };
-        body.extend_from_slice(&name(number % 0x1_0000_0000))?;
+        body.extend_from_slice(&name(number))?;
         body.extend_from_slice(b"\0v\0")?;
     }
     body.push(0)?;

@@ -44,7 +44,7 @@ ok_field x = Ok x
 field_is : (x y : Field × List ℕ) → ok_field x ≡ ok_field y → x ≡ y
 field_is x y e = cc
 
-field_shortens : (b : List ℕ) (x : Field) (rest : List ℕ) → field_at b ≡ Ok (x, rest) → length rest < length b
+pub field_shortens : (b : List ℕ) (x : Field) (rest : List ℕ) → field_at b ≡ Ok (x, rest) → length rest < length b
 field_shortens b x rest e =
     let c = bind_ok (byte_at b) (λ code. text_at code.1 >>= λ value. ok_field (record { code = code.0; value = value.0 }, value.1)) (x, rest) e in
     let v = bind_ok (text_at c.0.1) (λ value. ok_field (record { code = c.0.0; value = value.0 }, value.1)) (x, rest) c.2 in

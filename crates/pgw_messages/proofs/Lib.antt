@@ -16,3 +16,4 @@ pub mod CanBeWritten
 pub mod Taken
 pub mod PlacesLemmas
 pub mod Written
+pub mod ViewLemmas

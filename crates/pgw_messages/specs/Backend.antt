@@ -14,6 +14,7 @@ use Rattle.pgw_messages.specs.declared.backend.notify.NotifyMsg.{NotifyMsg}
 use Rattle.pgw_messages.specs.declared.backend.message.BackMsg.{BackMsg}
 use Rattle.pgw_messages.specs.declared.backend.message.BackMsg.TheVariants as back
 use Rattle.pgw_messages.specs.Reading.{Read, ◌>>=◌, mapped, byte_at, number_at, signed_at, remaining_at, value_at, text_at, list_at, whole}
+use Rattle.pgw_messages.specs.Tags as tag
 use Rattle.pgw_messages.specs.Spelling.{text_bytes, signed_bytes, value_bytes, list_bytes, HasNoZero, IsText, IsValue, IsList}
 use Rattle.pgw_messages.specs.Fields.{fields_at, fields_bytes, IsField, CanWriteField}
 use Rattle.pgw_messages.specs.Startup.{pair_at, pair_bytes, IsPair}
@@ -115,44 +116,26 @@ pub record IsCopy (m : CopyMsg) : Type 0 where
 
 -- what a message of this type holds
 abbrev pub back_at : ℕ → List ℕ → Read BackMsg
-back_at tag b =
-    -- R
-    if tag == 82 then mapped back.Auth (auth_at b)
-    -- S
-    else if tag == 83 then mapped back.Status (pair_at b)
-    -- K
-    else if tag == 75 then mapped back.Key (key_at b)
-    -- Z
-    else if tag == 90 then mapped back.Ready (ready_at b)
-    -- T
-    else if tag == 84 then mapped back.Columns (list_at column_at b)
-    -- D
-    else if tag == 68 then mapped back.Row (list_at value_at b)
-    -- C
-    else if tag == 67 then mapped back.Complete (text_at b)
-    -- I
-    else if tag == 73 then Ok (back.Empty, b)
-    -- E
-    else if tag == 69 then mapped back.Fault (fields_at b)
-    -- N
-    else if tag == 78 then mapped back.Notice (fields_at b)
-    -- A
-    else if tag == 65 then mapped back.Notify (notify_at b)
-    -- 1
-    else if tag == 49 then Ok (back.ParseDone, b)
-    -- 2
-    else if tag == 50 then Ok (back.BindDone, b)
-    -- 3
-    else if tag == 51 then Ok (back.CloseDone, b)
-    -- t
-    else if tag == 116 then mapped back.ParamTypes (list_at (number_at w32) b)
-    -- n
-    else if tag == 110 then Ok (back.NoRows, b)
-    -- s
-    else if tag == 115 then Ok (back.Suspended, b)
-    -- G
-    else if tag == 71 then mapped back.CopyIn (copy_at b)
-    else Err (UnknownTag tag)
+back_at t b =
+    if t == tag.authentication then mapped back.Auth (auth_at b)
+    else if t == tag.parameter_status then mapped back.Status (pair_at b)
+    else if t == tag.backend_key_data then mapped back.Key (key_at b)
+    else if t == tag.ready_for_query then mapped back.Ready (ready_at b)
+    else if t == tag.row_description then mapped back.Columns (list_at column_at b)
+    else if t == tag.data_row then mapped back.Row (list_at value_at b)
+    else if t == tag.command_complete then mapped back.Complete (text_at b)
+    else if t == tag.empty_query_response then Ok (back.Empty, b)
+    else if t == tag.error_response then mapped back.Fault (fields_at b)
+    else if t == tag.notice_response then mapped back.Notice (fields_at b)
+    else if t == tag.notification_response then mapped back.Notify (notify_at b)
+    else if t == tag.parse_complete then Ok (back.ParseDone, b)
+    else if t == tag.bind_complete then Ok (back.BindDone, b)
+    else if t == tag.close_complete then Ok (back.CloseDone, b)
+    else if t == tag.parameter_description then mapped back.ParamTypes (list_at (number_at w32) b)
+    else if t == tag.no_data then Ok (back.NoRows, b)
+    else if t == tag.portal_suspended then Ok (back.Suspended, b)
+    else if t == tag.copy_in_response then mapped back.CopyIn (copy_at b)
+    else Err (UnknownTag t)
 
 -- the message that a frame is
 unfoldable pub back_of : Frame → Result BackMsg MsgFault
@@ -160,24 +143,24 @@ back_of f = whole (back_at f.tag f.body)
 
 -- the type of a message
 abbrev pub back_tag : BackMsg → ℕ
-back_tag (back.Auth m) = 82
-back_tag (back.Status m) = 83
-back_tag (back.Key m) = 75
-back_tag (back.Ready state) = 90
-back_tag (back.Columns cs) = 84
-back_tag (back.Row vs) = 68
-back_tag (back.Complete t) = 67
-back_tag back.Empty = 73
-back_tag (back.Fault fs) = 69
-back_tag (back.Notice fs) = 78
-back_tag (back.Notify m) = 65
-back_tag back.ParseDone = 49
-back_tag back.BindDone = 50
-back_tag back.CloseDone = 51
-back_tag (back.ParamTypes ts) = 116
-back_tag back.NoRows = 110
-back_tag back.Suspended = 115
-back_tag (back.CopyIn m) = 71
+back_tag (back.Auth m) = tag.authentication
+back_tag (back.Status m) = tag.parameter_status
+back_tag (back.Key m) = tag.backend_key_data
+back_tag (back.Ready state) = tag.ready_for_query
+back_tag (back.Columns cs) = tag.row_description
+back_tag (back.Row vs) = tag.data_row
+back_tag (back.Complete t) = tag.command_complete
+back_tag back.Empty = tag.empty_query_response
+back_tag (back.Fault fs) = tag.error_response
+back_tag (back.Notice fs) = tag.notice_response
+back_tag (back.Notify m) = tag.notification_response
+back_tag back.ParseDone = tag.parse_complete
+back_tag back.BindDone = tag.bind_complete
+back_tag back.CloseDone = tag.close_complete
+back_tag (back.ParamTypes ts) = tag.parameter_description
+back_tag back.NoRows = tag.no_data
+back_tag back.Suspended = tag.portal_suspended
+back_tag (back.CopyIn m) = tag.copy_in_response
 
 -- the body of a message
 abbrev pub back_body : BackMsg → List ℕ

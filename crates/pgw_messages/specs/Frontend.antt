@@ -11,6 +11,7 @@ use Rattle.pgw_messages.specs.declared.frontend.execute.ExecuteMsg.{ExecuteMsg}
 use Rattle.pgw_messages.specs.declared.frontend.message.FrontMsg.{FrontMsg}
 use Rattle.pgw_messages.specs.declared.frontend.message.FrontMsg.TheVariants as front
 use Rattle.pgw_messages.specs.Reading.{Read, ◌>>=◌, mapped, byte_at, number_at, remaining_at, value_at, text_at, list_at, whole}
+use Rattle.pgw_messages.specs.Tags as tag
 use Rattle.pgw_messages.specs.Spelling.{text_bytes, value_bytes, list_bytes, HasNoZero, IsText, IsValue, IsList}
 
 -- ---- bodies
@@ -86,36 +87,22 @@ pub record IsExecute (m : ExecuteMsg) : Type 0 where
 
 -- what a message of this type holds
 abbrev pub front_at : ℕ → List ℕ → Read FrontMsg
-front_at tag b =
-    -- Q
-    if tag == 81 then mapped front.Query (text_at b)
-    -- P
-    else if tag == 80 then mapped front.Parse (parse_at b)
-    -- B
-    else if tag == 66 then mapped front.Bind (bind_at b)
-    -- D
-    else if tag == 68 then mapped front.Describe (part_at b)
-    -- E
-    else if tag == 69 then mapped front.Execute (execute_at b)
-    -- S
-    else if tag == 83 then Ok (front.Sync, b)
-    -- H
-    else if tag == 72 then Ok (front.Flush, b)
-    -- C
-    else if tag == 67 then mapped front.Close (part_at b)
-    -- F
-    else if tag == 70 then mapped front.Call (remaining_at b)
-    -- d
-    else if tag == 100 then mapped front.CopyData (remaining_at b)
-    -- c
-    else if tag == 99 then Ok (front.CopyDone, b)
-    -- f
-    else if tag == 102 then mapped front.CopyFail (text_at b)
-    -- p
-    else if tag == 112 then mapped front.Password (remaining_at b)
-    -- X
-    else if tag == 88 then Ok (front.Terminate, b)
-    else Err (UnknownTag tag)
+front_at t b =
+    if t == tag.query then mapped front.Query (text_at b)
+    else if t == tag.parse then mapped front.Parse (parse_at b)
+    else if t == tag.bind then mapped front.Bind (bind_at b)
+    else if t == tag.describe then mapped front.Describe (part_at b)
+    else if t == tag.execute then mapped front.Execute (execute_at b)
+    else if t == tag.sync then Ok (front.Sync, b)
+    else if t == tag.flush then Ok (front.Flush, b)
+    else if t == tag.close then mapped front.Close (part_at b)
+    else if t == tag.function_call then mapped front.Call (remaining_at b)
+    else if t == tag.copy_data then mapped front.CopyData (remaining_at b)
+    else if t == tag.copy_done then Ok (front.CopyDone, b)
+    else if t == tag.copy_fail then mapped front.CopyFail (text_at b)
+    else if t == tag.password_message then mapped front.Password (remaining_at b)
+    else if t == tag.terminate then Ok (front.Terminate, b)
+    else Err (UnknownTag t)
 
 -- the message that a frame is
 unfoldable pub front_of : Frame → Result FrontMsg MsgFault
@@ -123,20 +110,20 @@ front_of f = whole (front_at f.tag f.body)
 
 -- the type of a message
 abbrev pub front_tag : FrontMsg → ℕ
-front_tag (front.Query t) = 81
-front_tag (front.Parse m) = 80
-front_tag (front.Bind m) = 66
-front_tag (front.Describe m) = 68
-front_tag (front.Execute m) = 69
-front_tag front.Sync = 83
-front_tag front.Flush = 72
-front_tag (front.Close m) = 67
-front_tag (front.Call b) = 70
-front_tag (front.CopyData b) = 100
-front_tag front.CopyDone = 99
-front_tag (front.CopyFail t) = 102
-front_tag (front.Password b) = 112
-front_tag front.Terminate = 88
+front_tag (front.Query t) = tag.query
+front_tag (front.Parse m) = tag.parse
+front_tag (front.Bind m) = tag.bind
+front_tag (front.Describe m) = tag.describe
+front_tag (front.Execute m) = tag.execute
+front_tag front.Sync = tag.sync
+front_tag front.Flush = tag.flush
+front_tag (front.Close m) = tag.close
+front_tag (front.Call b) = tag.function_call
+front_tag (front.CopyData b) = tag.copy_data
+front_tag front.CopyDone = tag.copy_done
+front_tag (front.CopyFail t) = tag.copy_fail
+front_tag (front.Password b) = tag.password_message
+front_tag front.Terminate = tag.terminate
 
 -- the body of a message
 abbrev pub front_body : FrontMsg → List ℕ

@@ -5,6 +5,9 @@ pub mod Params
 pub mod Places
 pub mod Startup
 pub mod Fields
+pub mod Tags
 pub mod Frontend
 pub mod Backend
+pub mod Views
+pub mod ColumnViews
 pub mod Laws

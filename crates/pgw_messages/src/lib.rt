@@ -4,8 +4,11 @@
 //! A message is read from left to right, and its first fault is the refusal. Nothing here knows when a
 //! message may come, or cuts a stream into frames.
 //!
-//! Not read: the body of FunctionCall and of the password family, what an authentication request brings
-//! with its code, and the messages of a copy out or of both ways.
+//! Not read: the body of FunctionCall and of the password family, and what an authentication message has
+//! behind its code; these stay bytes. Of a server, CopyOutResponse, CopyBothResponse, CopyData, CopyDone,
+//! FunctionCallResponse and NegotiateProtocolVersion are unknown types.
+//!
+//! A view shows what a body holds without memory, by the same definitions as the reader.
 //!
 //! Source: PostgreSQL manual, "Message Formats", "Message Data Types" and "Error and Notice Message
 //! Fields" of the frontend/backend protocol, version 3.0.
@@ -24,7 +27,9 @@ mod params;
 mod pod_key;
 mod reader;
 mod startup;
+pub mod tags;
 mod values;
+mod view;
 mod writer;
 
 pub use backend::{
@@ -39,6 +44,7 @@ pub use params::{Pair, Params};
 pub use pod_key::PodKey;
 pub use startup::{read_params, startup_bytes};
 pub use values::Row;
+pub use view::{ColumnView, ColumnsView, FieldsView, RowView};
 
 #[cfg(test)]
 mod tests;

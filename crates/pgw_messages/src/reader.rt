@@ -1,12 +1,13 @@
 //! Reading the fields of a message from left to right.
 
-ghost use Rattle.std.specs.Prelude.{◌≡◌, position};
+ghost use Rattle.std.specs.Prelude.{◌≡◌};
 ghost use Rattle.std.specs.Int.{w16, w32};
-ghost use Rattle.pgw_messages.specs.Reading.{Gives, ReadsAs, Reads, taken, byte_at, number_at, signed_at, remaining_at, value_at, ended, is_zero, zero_ended, text_at, end_at, many_at, list_at};
+ghost use Rattle.pgw_messages.specs.Reading.{Gives, ReadsAs, Reads, taken, byte_at, number_at, signed_at, remaining_at, value_at, ended, zero_ended, text_at, end_at, many_at, list_at};
 
 use crate::fault::MsgFault;
 use crate::item::Item;
 use crate::items::Items;
+use crate::view::front::zero_ended;
 use pgw_frames::{Bytes, Text};
 use std::alloc::Global;
 use std::marker::Model;
@@ -25,13 +26,6 @@ impl<'a> Model for Reader<'a> {
     ghost Value = { List ℕ };
 
     ghost view = { λ r. r.rest.now };
-}
-
-/// Where the first zero byte stands.
-fn place_of_zero(bytes: &[u8]) -> Option<usize>
-    ensures { result ≡ position is_zero bytes.now }
-{
-    bytes.iter().position(|b| *b == 0)
 }
 
 impl<'a> Reader<'a> {
@@ -144,11 +138,10 @@ impl<'a> Reader<'a> {
     fn zero_ended(&mut self) -> Result<&'a [u8], MsgFault>
         ensures { ReadsAs (λ s. s.now) result self.new (zero_ended self.old) }
     {
-        let Some(end) = place_of_zero(self.rest) else {
+        let Some((text, rest)) = zero_ended(self.rest) else {
             return Err(MsgFault::Short);
         };
-        let (text, behind) = self.rest.split_at(end);
-        self.rest = behind.split_at(1).1;
+        self.rest = rest;
         Ok(text)
     }
 

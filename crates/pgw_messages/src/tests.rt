@@ -1,6 +1,7 @@
 mod backend;
 mod frontend;
 mod startup;
+mod views;
 
 use std::alloc::Global;
 use std::test::*;

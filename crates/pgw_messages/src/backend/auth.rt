@@ -15,7 +15,8 @@ pub struct AuthMsg {
     /// 0 is AuthenticationOk, 3 asks for a password in clear text, 5 for an MD5 one; 10 to 12 are of
     /// SASL.
     pub code: u32,
-    /// What the code brings with it, which is not read.
+    /// What stands behind the code, which is not read: a salt, or names and data of SASL; bytes behind
+    /// the code 0 too.
     pub rest: Bytes,
 }
 
