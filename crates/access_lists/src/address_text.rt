@@ -41,7 +41,8 @@ fn read_v6(t: &str) -> Option<u128>
 
 /// Reads an address: IPv4 as four decimal numbers without leading zeros, or IPv6 as eight groups of
 /// one to four hexadecimal digits, of which one `::` may stand for one zero group or more. An
-/// IPv4-mapped address stays an IPv6 address. The only error is `BadAddress`. It takes no memory.
+/// IPv4-mapped address stays an IPv6 address. The only error is `BadAddress`, also where a prefix stands
+/// behind an address. It takes no memory.
 pub fn read_addr(t: &str) -> Result<Addr, NetFault>
     ensures { ReadsAddr t.now result }
 {

@@ -1,10 +1,12 @@
 //! What isn't an address or a network.
 
-/// Why a text was refused.
+/// Why a text was refused. Where both are so, it is a bad address (`10.0.0.01/33`).
 #[derive(Clone, Copy, Debug, PartialEq, Eq)]
 pub enum NetFault {
-    /// The text, or its part before the first slash, is no address.
+    /// The text of `read_addr` is no address (`10.0.0.01`, `10.0.0.1/8`), or the part before the first
+    /// slash of the text of `read_net` is none.
     BadAddress,
-    /// What stands behind the first slash is no prefix of that address's family.
+    /// An address stands before the first slash, and behind it no prefix of the address's family
+    /// (`10.0.0.0/33`). Only `read_net` answers so.
     BadPrefix,
 }

@@ -60,7 +60,8 @@ fn read_prefix(t: Option<&str>, width: u8) -> Result<u8, NetFault>
 
 /// Reads a network: an address, and behind a slash the prefix in decimal without leading zeros, at
 /// most 32 for IPv4 and 128 for IPv6, which it also is where there is no slash. `BadAddress` where no
-/// address stands before the first slash, and else `BadPrefix`. It takes no memory.
+/// address stands before the first slash, whatever stands behind it, and else `BadPrefix`. It takes no
+/// memory.
 pub fn read_net(t: &str) -> Result<Net, NetFault>
     ensures { ReadsNet t.now result }
 {

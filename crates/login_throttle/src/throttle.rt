@@ -13,8 +13,8 @@ use std::alloc::Global;
 use std::collections::BTreeMap;
 
 /// What is kept of the logins that were reported: for each address and tenant whose last login failed,
-/// the failures since its last success, and the moment of the last one. Contracts see the list of all
-/// reports, the newest first.
+/// the failures since its last success, and the moment of the last one. It has no model: contracts tie
+/// it by a relation to the list of all reports, the newest first, which it does not keep.
 #[derive(Drop)]
 pub struct Throttle {
     rows: BTreeMap<Pair, Row>,
