@@ -6,7 +6,7 @@ use Rattle.pgw_frames.specs.Frames.{IsGood, IsBytes}
 use Rattle.proxy_outside.specs.Rules.{Rules}
 use Rattle.pgw_messages.specs.Startup.{Fits}
 use Rattle.session_model.specs.Kind.{Kind, EndsReady, Answers, WasBegun}
-use Rattle.session_model.specs.Tags.{is_ask, is_copy, one, readies_in, last_tag}
+use Rattle.session_model.specs.Tags.{is_ask, is_copy, is_status, one, readies_in, last_tag}
 use Rattle.session_model.specs.Texts.{transfer_query, transfer_reply, restore_query, restore_reply}
 use Rattle.pgw_messages.specs.declared.params.Pair.{Pair}
 use Rattle.session_model.specs.declared.transfer.Dump.TheVariants.{Blob, Not}
@@ -24,6 +24,10 @@ pub record Laws {S T C R : Type 0} (k : Kind S C R) (rules : Rules T C R) (kept 
   pub says_why : (s : S) (r : List ℕ) → k.dumps s ≡ Not r → r ≢ []
   -- no more ReadyForQuery than Query and Sync
   pub counts : (s : S) (f : Frame) (a : Option R) → readies_in (k.tells s f a).1 + k.due (k.tells s f a).0 ≤ k.due s + one (is_ask f.tag)
+  -- one is due at most
+  pub due_once : (s : S) → k.due s ≤ 1
+  -- a session is idle, in a transaction, or in one that failed
+  pub has_status : (s : S) → is_status (k.status s) ≡ true
   -- where the last one that is due has come, it stands last and the session is quiet
   pub settles : (s : S) (f : Frame) (a : Option R) → (is_ask f.tag || is_copy f.tag) ≡ true → 1 ≤ readies_in (k.tells s f a).1 → k.due (k.tells s f a).0 ≡ 0
       → (last_tag 0 (k.tells s f a).1 ≡ 90) × (k.quiet (k.tells s f a).0 ≡ true)

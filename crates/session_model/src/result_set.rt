@@ -1,27 +1,28 @@
 //! The messages that a reply of rows is made of.
 
-ghost use Rattle.std.specs.Prelude.{◌≡◌, ◌<◌, ◌^◌, ◌++◌, length, map, IfOk, OnOk};
-ghost use Rattle.std.specs.List.{AllByRecursion};
+ghost use Rattle.std.specs.Prelude.{◌≡◌, ◌++◌, length, map, IfOk, OnOk};
+ghost use Rattle.std.specs.Int.{w16, w32, to_be_bytes};
 ghost use Rattle.session_model.specs.Texts.{column, value};
 ghost use Rattle.session_model.specs.Texts as text;
 
 use pgw_frames::{Bytes, Frame, NoMemory};
 use std::alloc::Global;
 
-/// A type's number and its size in bytes, as RowDescription has them.
+/// A type's number and its size in bytes, as RowDescription has them. A size of 65,535 is -1: values
+/// have no one size.
 #[derive(Clone, Copy)]
-pub(crate) struct ColumnType {
+pub struct ColumnType {
     pub number: u32,
     pub size: u16,
 }
 
-pub(crate) const BOOLEAN: ColumnType = ColumnType {
+pub const BOOLEAN: ColumnType = ColumnType {
     number: 16,
     size: 1,
 };
 
 /// Its size is -1: texts have no one size.
-pub(crate) const TEXT: ColumnType = ColumnType {
+pub const TEXT: ColumnType = ColumnType {
     number: 25,
     size: 0xffff,
 };
@@ -30,7 +31,7 @@ pub(crate) const TEXT: ColumnType = ColumnType {
 const SMALL_ROW: usize = 64;
 
 /// Adds what RowDescription says of a column that is no table's.
-pub(crate) fn add_column(body: &mut Vec<u8>, name: &str, of: ColumnType) -> Result<(), NoMemory>
+pub fn add_column(body: &mut Vec<u8>, name: &str, of: ColumnType) -> Result<(), NoMemory>
     ensures { OnOk result (body.new.items ≡ body.old.items ++ column name.now of.number of.size) }
 {
     body.extend_from_slice(name.as_bytes())?;
@@ -41,24 +42,35 @@ pub(crate) fn add_column(body: &mut Vec<u8>, name: &str, of: ColumnType) -> Resu
     Ok(())
 }
 
+/// The low 32 bits of a length, as a field of a message has them.
+fn length_field(len: usize) -> [u8; 4]
+    ensures { result ≡ to_be_bytes w32 len }
+{
+    ((len as u64 & 0xffff_ffff) as u32).to_be_bytes()
+}
+
+/// The low 16 bits of a count, as a field of a message has them.
+fn count_field(count: usize) -> [u8; 2]
+    ensures { result ≡ to_be_bytes w16 count }
+{
+    ((count as u64 & 0xffff) as u16).to_be_bytes()
+}
+
 /// Adds a value with its length.
 fn add_value(body: &mut Vec<u8>, v: &[u8]) -> Result<(), NoMemory>
-    requires { length v.now < 2 ^ 31 }
     ensures { OnOk result (body.new.items ≡ body.old.items ++ value v.now) }
 {
-    body.extend_from_slice(&(v.len() as u32).to_be_bytes())?;
+    body.extend_from_slice(&length_field(v.len()))?;
     body.extend_from_slice(v)?;
     Ok(())
 }
 
-/// A DataRow.
-pub(crate) fn row(alloc: Global, values: &[&[u8]]) -> Result<Frame, NoMemory>
-    requires count { length values.now < 2 ^ 15 }
-    requires sizes { AllByRecursion (λ v. length v.now < 2 ^ 31) values.now }
+/// A DataRow of these values. A frame has room for 65,535 of them.
+pub fn row(alloc: Global, values: &[&[u8]]) -> Result<Frame, NoMemory>
     ensures { IfOk result (λ f. f ≡ text.row (map (λ v. v.now) values.now)) }
 {
     let mut body = Vec::with_capacity(alloc, SMALL_ROW)?;
-    body.extend_from_slice(&(values.len() as u16).to_be_bytes())?;
+    body.extend_from_slice(&count_field(values.len()))?;
     for v in values {
         add_value(&mut body, v)?;
     }
@@ -69,7 +81,7 @@ pub(crate) fn row(alloc: Global, values: &[&[u8]]) -> Result<Frame, NoMemory>
 }
 
 /// A CommandComplete. The tag ends in its zero byte.
-pub(crate) fn complete(alloc: Global, tag: &[u8]) -> Result<Frame, NoMemory>
+pub fn complete(alloc: Global, tag: &[u8]) -> Result<Frame, NoMemory>
     ensures { IfOk result (λ f. f ≡ record { tag = 67; body = tag.now }) }
 {
     Ok(Frame {

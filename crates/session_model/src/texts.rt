@@ -1,13 +1,13 @@
 //! The texts of a transfer, and the replies to them.
 
-ghost use Rattle.std.specs.Prelude.{◌≡◌, ◌≤◌, length, string_bytes, IfOk};
-ghost use Rattle.session_model.specs.Texts.{key_digits, dump_len};
+ghost use Rattle.std.specs.Prelude.{◌≡◌, string_bytes, IfOk};
+ghost use Rattle.session_model.specs.Texts.{key_digits};
 ghost use Rattle.session_model.specs.Texts as text;
 
 use crate::result_set::{BOOLEAN, TEXT, add_column, complete, ready, row};
 use crate::transfer::{Dump, TransferKey};
 use base64::engine::general_purpose::STANDARD;
-use pgw_frames::{Bytes, Frame, Frames, MOST_BODY, NoMemory, Text};
+use pgw_frames::{Bytes, Frame, Frames, NoMemory, Text};
 use std::alloc::Global;
 
 /// How many bytes a transfer Query's text takes, and a zero byte behind it.
@@ -68,9 +68,6 @@ fn transfer_columns(alloc: Global) -> Result<Frame, NoMemory>
 /// The row of the reply to a transfer Query: what was dumped, and the digits of the key.
 #[tactic(auto, unfolding(crate::specs::Texts::digits_row))]
 fn digits_row(alloc: Global, digits: &[u8], d: &Dump, token: &str) -> Result<Frame, NoMemory>
-    requires digits { length digits.now ≤ MOST_BODY }
-    requires dump { dump_len d.now ≤ MOST_BODY }
-    requires token { length token.now ≤ MOST_BODY }
     ensures { IfOk result (λ f. f ≡ text.digits_row digits.now d.now token.now) }
 {
     match d {
@@ -91,9 +88,6 @@ pub fn digits_reply(
     token: &str,
     status: u8,
 ) -> Result<Frames, NoMemory>
-    requires digits { length digits.now ≤ MOST_BODY }
-    requires dump { dump_len d.now ≤ MOST_BODY }
-    requires token { length token.now ≤ MOST_BODY }
     ensures { IfOk result (λ fs. fs ≡ text.digits_reply digits.now d.now token.now status) }
 {
     let columns = transfer_columns(alloc)?;
@@ -111,8 +105,6 @@ pub fn transfer_reply(
     token: &str,
     status: u8,
 ) -> Result<Frames, NoMemory>
-    requires dump { dump_len d.now ≤ MOST_BODY }
-    requires token { length token.now ≤ MOST_BODY }
     ensures { IfOk result (λ fs. fs ≡ text.transfer_reply k.now d.now token.now status) }
 {
     let digits = key_text(alloc, k)?;

@@ -1,8 +1,11 @@
--- The session that counts its queries. It keeps no parameters, and so has no token.
-use Rattle.std.specs.Prelude.{Bool, true, false, ◌==◌, ◌||◌, ℕ, ◌+◌, ◌%◌, ◌^◌, ◌<◌, List, [], ◌∷◌, ◌++◌, Option, Some, None, if◌then◌else◌, codes}
+-- The session that counts its queries. Of its parameters it keeps its token alone.
+use Rattle.std.specs.Prelude.{Bool, true, false, ◌==◌, ◌||◌, ℕ, ◌+◌, ◌%◌, ◌^◌, ◌<◌, ◌≤◌, List, [], length, ◌∷◌, ◌++◌, Option, Some, None, if◌then◌else◌, codes}
 use Rattle.std.specs.Int.{w64, to_be_bytes, from_be_bytes}
+use Rattle.std.specs.Option.{unwrap_or}
 use Rattle.pgw_frames.specs.declared.frame.Frame.{Frame}
 use Rattle.proxy_outside.specs.Rules.{Rules}
+use Rattle.pgw_messages.specs.declared.params.Pair.{Pair}
+use Rattle.pgw_messages.specs.Params.{value_of}
 use Rattle.session_model.specs.Kind.{Kind}
 use Rattle.session_model.specs.Texts.{ready, digits_reply, restore_reply}
 use Rattle.session_model.specs.declared.transfer.Dump.{Dump}
@@ -10,6 +13,10 @@ use Rattle.session_model.specs.declared.transfer.Dump.TheVariants.{Blob, Not}
 use Rattle.tally_session.specs.Reading.{begins_copy, restore_of, transfer_of}
 use Rattle.tally_session.specs.Replies.{idle_status, auth_ok, key_zero, complete_tally, complete_copy, copy_in, copy_failed, copy_ended}
 use Rattle.tally_session.specs.declared.store.Nothing.{Nothing}
+
+-- the parameter that a pod adds to every session: the token with which it may be revived
+abbrev pub token_name : List ℕ
+token_name = codes "crdb:session_token_base64"
 
 pub record Tally : Type 0 where
   pub count : ℕ
@@ -38,33 +45,33 @@ by_restore n copy None = by_copy n copy
 abbrev pub blob_of : ℕ → Dump
 blob_of n = Blob (to_be_bytes w64 n)
 
-abbrev pub by_transfer : ℕ → Bool → Option (List ℕ) → Option (List ℕ) → Told
-by_transfer n copy restore (Some digits) = (idle n, digits_reply digits (blob_of n) [] idle_status)
-by_transfer n copy restore None = by_restore n copy restore
+abbrev pub by_transfer : List ℕ → ℕ → Bool → Option (List ℕ) → Option (List ℕ) → Told
+by_transfer token n copy restore (Some digits) = (idle n, digits_reply digits (blob_of n) token idle_status)
+by_transfer token n copy restore None = by_restore n copy restore
 
-abbrev pub by_query : ℕ → List ℕ → Told
-by_query n body = by_transfer n (begins_copy body) (restore_of body) (transfer_of body)
+abbrev pub by_query : List ℕ → ℕ → List ℕ → Told
+by_query token n body = by_transfer token n (begins_copy body) (restore_of body) (transfer_of body)
 
 -- outside a copy a Query (81) is answered and a Sync (83) gets its ReadyForQuery, and nothing else says anything
-abbrev pub outside : ℕ → Frame → Told
-outside n f = if f.tag == 81 then by_query n f.body else if f.tag == 83 then (idle n, ready idle_status ∷ []) else (idle n, [])
+abbrev pub outside : List ℕ → ℕ → Frame → Told
+outside token n f = if f.tag == 81 then by_query token n f.body else if f.tag == 83 then (idle n, ready idle_status ∷ []) else (idle n, [])
 
 abbrev pub with_first : List Frame → Told → Told
 with_first fs r = (r.0, fs ++ r.1)
 
 -- In a copy to which c messages came, CopyData (100) is counted, CopyDone (99) and CopyFail (102) end it, and Sync
 -- and Flush (72) are ignored. Any other message ends it with an error, and is then taken as outside a copy.
-abbrev pub inside : ℕ → ℕ → Frame → Told
-inside n c f =
+abbrev pub inside : List ℕ → ℕ → ℕ → Frame → Told
+inside token n c f =
     if f.tag == 100 then (record { count = n; copy = Some ((c + 1) % 2 ^ 64) }, [])
     else if f.tag == 99 then (idle n, complete_copy c ∷ ready idle_status ∷ [])
     else if f.tag == 102 then (idle n, copy_failed ∷ ready idle_status ∷ [])
     else if (f.tag == 83) || (f.tag == 72) then (record { count = n; copy = Some c }, [])
-    else with_first (copy_ended ∷ ready idle_status ∷ []) (outside n f)
+    else with_first (copy_ended ∷ ready idle_status ∷ []) (outside token n f)
 
-abbrev pub tells_by : ℕ → Frame → Option ℕ → Told
-tells_by n f None = outside n f
-tells_by n f (Some c) = inside n c f
+abbrev pub tells_by : List ℕ → ℕ → Frame → Option ℕ → Told
+tells_by token n f None = outside token n f
+tells_by token n f (Some c) = inside token n c f
 
 abbrev pub dumps_by : ℕ → Option ℕ → Dump
 dumps_by n None = blob_of n
@@ -78,16 +85,28 @@ abbrev pub due_by : Option ℕ → ℕ
 due_by None = 0
 due_by (Some c) = 1
 
-unfoldable pub tally_kind : Kind Tally Nothing Nothing
+-- the value of the session's token parameter, or nothing
+abbrev pub token_of : List Pair → List ℕ
+token_of p = unwrap_or (value_of token_name p) []
+
+-- a tally and the session's token, which no message changes
+pub record State : Type 0 where
+  pub tally : Tally
+  pub token : List ℕ
+
+abbrev pub with_token : List ℕ → Told → State × List Frame
+with_token token r = (record { tally = r.0; token = token }, r.1)
+
+unfoldable pub tally_kind : Kind State Nothing Nothing
 tally_kind = record {
-  begins = λ p. (idle 0, auth_ok ∷ key_zero ∷ ready idle_status ∷ []);
+  begins = λ p. with_token (token_of p) (idle 0, auth_ok ∷ key_zero ∷ ready idle_status ∷ []);
   asks = λ s f. None;
-  tells = λ s f a. tells_by s.count f s.copy;
-  dumps = λ s. dumps_by s.count s.copy;
-  quiet = λ s. quiet_by s.copy;
-  due = λ s. due_by s.copy;
+  tells = λ s f a. with_token s.token (tells_by s.token s.tally.count f s.tally.copy);
+  dumps = λ s. dumps_by s.tally.count s.tally.copy;
+  quiet = λ s. quiet_by s.tally.copy;
+  due = λ s. due_by s.tally.copy;
   status = λ s. idle_status;
-  token = λ s. [];
+  token = λ s. s.token;
 }
 
 -- the store has one state
@@ -101,3 +120,7 @@ CopyKept (Some c) = c < 2 ^ 64
 
 abbrev pub TallyKept : Tally → Type 0
 TallyKept s = (s.count < 2 ^ 64) × CopyKept s.copy
+
+-- and the token within a startup packet
+abbrev pub StateKept : State → Type 0
+StateKept s = TallyKept s.tally × (length s.token ≤ 11900000)

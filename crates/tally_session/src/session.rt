@@ -1,6 +1,7 @@
 //! The session.
 
 ghost use Rattle.std.specs.Prelude.{◌≡◌, IfOk};
+ghost use Rattle.tally_session.specs.Tally.{token_of};
 
 use crate::reading::{asks_copy, restored, transfer_digits};
 use crate::replies::{
@@ -13,41 +14,44 @@ use session_model::{Dump, Session, digits_reply, restore_reply};
 use std::alloc::Global;
 use std::marker::Model;
 
-/// It counts its queries, and in a copy the messages of data.
+/// The parameter that a pod adds to every session: the token with which it may be revived.
+const TOKEN_NAME: &str = "crdb:session_token_base64";
+
+/// How many queries it counted, and in a copy how many messages of data.
 #[derive(Clone, Copy, Debug)]
-pub struct TallySession {
+struct Tally {
     count: u64,
     copy: Option<u64>,
 }
 
-impl Model for TallySession {
-    ghost use Rattle.tally_session.specs.Tally.{Tally};
+impl Model for Tally {
+    ghost use Rattle.tally_session.specs.Tally.{Tally as model};
 
-    ghost Value = { Tally };
+    ghost Value = { model };
 
     ghost view = { λ s. record { count = s.count; copy = s.copy } };
 
     ghost inverse = { λ t. record { count = t.count; copy = t.copy } };
 }
 
-/// A session after a message, and what it replied.
-type Told = (TallySession, Frames);
+/// A tally after a message, and what was replied.
+type Told = (Tally, Frames);
 
-impl TallySession {
+impl Tally {
     ghost use Rattle.tally_session.specs.Tally.{idle, by_query, outside, inside, tells_by, blob_of};
 
     /// Outside a copy.
-    fn idle(count: u64) -> TallySession
+    fn idle(count: u64) -> Tally
         ensures { result ≡ idle count }
     {
-        TallySession { count, copy: None }
+        Tally { count, copy: None }
     }
 
     /// In a copy that so many messages of data came to.
-    fn copying(count: u64, copied: u64) -> TallySession
+    fn copying(count: u64, copied: u64) -> Tally
         ensures { result ≡ record { count = count; copy = Some copied } }
     {
-        TallySession {
+        Tally {
             count,
             copy: Some(copied),
         }
@@ -61,87 +65,114 @@ impl TallySession {
     }
 
     /// Answers a Query outside a copy.
-    fn query(self, alloc: Global, body: &[u8]) -> Result<Told, NoMemory>
-        ensures { IfOk result (λ r. r ≡ by_query self.count body.now) }
+    fn query(self, alloc: Global, token: &str, body: &[u8]) -> Result<Told, NoMemory>
+        ensures { IfOk result (λ r. r ≡ by_query token.now self.count body.now) }
     {
         if let Some(digits) = transfer_digits(body) {
             let blob = self.blob(alloc)?;
-            let replies = digits_reply(alloc, digits, &blob, "", IDLE)?;
-            return Ok((TallySession::idle(self.count), replies));
+            let replies = digits_reply(alloc, digits, &blob, token, IDLE)?;
+            return Ok((Tally::idle(self.count), replies));
         }
         if let Some(bytes) = restored(alloc, body)? {
             let count = u64::from_be_bytes(bytes);
-            return Ok((TallySession::idle(count), restore_reply(alloc)?));
+            return Ok((Tally::idle(count), restore_reply(alloc)?));
         }
         if asks_copy(body) {
-            return Ok((TallySession::copying(self.count, 0), copy_in(alloc)?));
+            return Ok((Tally::copying(self.count, 0), copy_in(alloc)?));
         }
         let count = self.count.wrapping_add(1);
-        Ok((TallySession::idle(count), counted(alloc, count)?))
+        Ok((Tally::idle(count), counted(alloc, count)?))
     }
 
     /// Takes a message outside a copy.
-    fn outside_copy(self, alloc: Global, f: &Frame) -> Result<Told, NoMemory>
-        ensures { IfOk result (λ r. r ≡ outside self.count f.now) }
+    fn outside_copy(self, alloc: Global, token: &str, f: &Frame) -> Result<Told, NoMemory>
+        ensures { IfOk result (λ r. r ≡ outside token.now self.count f.now) }
     {
-        let next = TallySession::idle(self.count);
+        let next = Tally::idle(self.count);
         match f.tag {
-            b'Q' => self.query(alloc, f.body.as_slice()),
+            b'Q' => self.query(alloc, token, f.body.as_slice()),
             b'S' => Ok((next, only_ready(alloc)?)),
             _ => Ok((next, Frames::new(alloc))),
         }
     }
 
     /// Takes a message in a copy that so many messages of data came to.
-    fn inside_copy(self, alloc: Global, copied: u64, f: &Frame) -> Result<Told, NoMemory>
-        ensures { IfOk result (λ r. r ≡ inside self.count copied f.now) }
+    fn inside_copy(
+        self,
+        alloc: Global,
+        token: &str,
+        copied: u64,
+        f: &Frame,
+    ) -> Result<Told, NoMemory>
+        ensures { IfOk result (λ r. r ≡ inside token.now self.count copied f.now) }
     {
         match f.tag {
             b'd' => {
-                let next = TallySession::copying(self.count, copied.wrapping_add(1));
+                let next = Tally::copying(self.count, copied.wrapping_add(1));
                 Ok((next, Frames::new(alloc)))
             }
-            b'c' => Ok((TallySession::idle(self.count), copy_done(alloc, copied)?)),
-            b'f' => Ok((TallySession::idle(self.count), copy_failed(alloc)?)),
-            b'S' | b'H' => Ok((
-                TallySession::copying(self.count, copied),
-                Frames::new(alloc),
-            )),
+            b'c' => Ok((Tally::idle(self.count), copy_done(alloc, copied)?)),
+            b'f' => Ok((Tally::idle(self.count), copy_failed(alloc)?)),
+            b'S' | b'H' => Ok((Tally::copying(self.count, copied), Frames::new(alloc))),
             _ => {
-                let (next, replies) = self.outside_copy(alloc, f)?;
+                let (next, replies) = self.outside_copy(alloc, token, f)?;
                 Ok((next, copy_ended(alloc, replies)?))
             }
         }
     }
 
     /// Takes a message.
-    fn after(self, alloc: Global, f: &Frame) -> Result<Told, NoMemory>
-        ensures { IfOk result (λ r. r ≡ tells_by self.count f.now self.copy) }
+    fn after(self, alloc: Global, token: &str, f: &Frame) -> Result<Told, NoMemory>
+        ensures { IfOk result (λ r. r ≡ tells_by token.now self.count f.now self.copy) }
     {
         match self.copy {
-            None => self.outside_copy(alloc, f),
-            Some(copied) => self.inside_copy(alloc, copied, f),
+            None => self.outside_copy(alloc, token, f),
+            Some(copied) => self.inside_copy(alloc, token, copied, f),
         }
     }
 }
 
+/// It counts its queries, and keeps the token of the parameters with which it was begun.
+#[derive(Debug, Drop)]
+pub struct TallySession {
+    now: Tally,
+    token: Text,
+}
+
+impl Model for TallySession {
+    ghost use Rattle.tally_session.specs.Tally.{State};
+
+    ghost Value = { State };
+
+    ghost view = { λ s. record { tally = s.now; token = s.token } };
+}
+
+/// The token of these parameters, or an empty text.
+fn token(alloc: Global, p: &Params) -> Result<Text, NoMemory>
+    ensures { IfOk result (λ t. t ≡ token_of p.now) }
+{
+    Text::of(alloc, p.value(TOKEN_NAME).unwrap_or(""))
+}
+
 #[tactic(auto, unfolding(crate::specs::Tally::tally_kind))]
 impl Session for TallySession {
-    ghost use Rattle.tally_session.specs.Tally.{Tally, TallyKept, tally_kind};
+    ghost use Rattle.tally_session.specs.Tally.{State as model, StateKept, tally_kind};
     ghost use Rattle.tally_session.specs.Keeps.{keeps_laws};
 
     type Store = TallyStore;
 
-    ghost State = { Tally };
+    ghost State = { model };
 
     ghost kind = { tally_kind };
 
     ghost state = { λ s. s };
 
-    ghost kept = { TallyKept };
+    ghost kept = { StateKept };
 
-    fn begin(alloc: Global, _p: &Params) -> Result<(TallySession, Frames), NoMemory> {
-        Ok((TallySession::idle(0), greeting(alloc)?))
+    fn begin(alloc: Global, p: &Params) -> Result<(TallySession, Frames), NoMemory> {
+        let token = token(alloc, p)?;
+        let now = Tally::idle(0);
+        Ok((TallySession { now, token }, greeting(alloc)?))
     }
 
     fn ask(&self, _alloc: Global, _f: &Frame) -> Result<Option<Nothing>, NoMemory> {
@@ -154,14 +185,14 @@ impl Session for TallySession {
         f: &Frame,
         _answer: Option<&Nothing>,
     ) -> Result<Frames, NoMemory> {
-        let (next, replies) = self.after(alloc, f)?;
-        *self = next;
+        let (next, replies) = self.now.after(alloc, self.token.as_str(), f)?;
+        self.now = next;
         Ok(replies)
     }
 
     fn dump(&self, alloc: Global) -> Result<Dump, NoMemory> {
-        match self.copy {
-            None => self.blob(alloc),
+        match self.now.copy {
+            None => self.now.blob(alloc),
             Some(_) => Ok(Dump::Not(Text::of(alloc, "session is in a copy")?)),
         }
     }

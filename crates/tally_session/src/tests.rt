@@ -93,7 +93,8 @@ fn what_it_dumps(rt: HostRuntime) -> Result<(), Fail> {
 #[test]
 fn a_move(rt: HostRuntime) -> Result<(), Fail> {
     let alloc = rt.alloc();
-    let p = Params::new(alloc);
+    let mut p = Params::new(alloc);
+    p.put("crdb:session_token_base64", "dG9r")?;
     let (mut old, _) = TallySession::begin(alloc, &p)?;
     old.tell(alloc, &query(alloc, "1")?, None)?;
     let key = TransferKey {
@@ -103,7 +104,7 @@ fn a_move(rt: HostRuntime) -> Result<(), Fail> {
     let ask = transfer_text(alloc, &key)?;
     let replies = old.tell(alloc, &query(alloc, ask.as_str())?, None)?;
     let row = replies.get(1).map(|f| f.body.as_slice()
-        == b"\0\x04\0\0\0\0\0\0\0\x0cAAAAAAAAAAE=\0\0\0\0\0\0\0\x20000102030405060708090a0b0c0d0e0f".as_slice());
+        == b"\0\x04\0\0\0\0\0\0\0\x0cAAAAAAAAAAE=\0\0\0\x04dG9r\0\0\0\x20000102030405060708090a0b0c0d0e0f".as_slice());
     assert_eq!(rt; row, Some(true));
     let (mut new, _) = TallySession::begin(alloc, &p)?;
     let give = restore_text(alloc, b"\0\0\0\0\0\0\0\x01")?;
