@@ -1,5 +1,6 @@
 -- What the calls of a machine mean: histories, which of them are legal, and the history of a journal.
-use Rattle.std.specs.Prelude.{◌≡◌, ℕ, suc, ◌≤◌, List, [], ◌∷◌, ◌++◌, ◌+◌, ◌==◌, Bool, true, false}
+use Rattle.std.specs.Prelude.{◌≡◌, ℕ, suc, ◌≤◌, List, [], ◌∷◌, ◌++◌, length, ◌+◌, ◌==◌, Bool, true, false}
+use Rattle.std.specs.List.{IsDistinct}
 use mathlib.Core.Option.{some}
 use lib.ListN.{get_elem?}
 use Rattle.proxy_outside.specs.Rules.{Rules}
@@ -73,6 +74,19 @@ module _ {S C R : Type 0} (rules : Rules S C R) where
     pub after : List (Entry C R)
     pub place : history ≡ before ++ e ∷ after
     pub reply : e.reply ≡ rules.reply (behind rules.first before) e.command
+
+  -- each call stands at its place, which is how many entries stand before it
+  abbrev pub AreAt : List (Entry C R) → List (Entry C R) → List ℕ → Type 0
+  AreAt history [] [] = Unit {0}
+  AreAt history (e ∷ es) (k ∷ ks) = ((a : IsAnsweredIn history e) × (length a.before ≡ k)) × AreAt history es ks
+  AreAt history [] (k ∷ ks) = ⊥
+  AreAt history (e ∷ es) [] = ⊥
+
+  -- each call stands at a place of its own
+  pub record AreAnsweredIn (history own : List (Entry C R)) : Type 0 where
+    pub places : List ℕ
+    pub apart : IsDistinct (λ j k. j == k) places
+    pub each : AreAt history own places
 
   -- the history of calls, with the replies of one machine that is run over them from this state
   abbrev pub history_from : S → List (Call C) → List (Entry C R)

@@ -1,7 +1,6 @@
 //! The desk and its seats.
 ghost use Rattle.std.specs.Prelude.{◌≡◌, [], ◌++◌, ◌⊎◌, IfOk, IfErr};
-ghost use Rattle.std.specs.List.{AllByRecursion};
-ghost use Rattle.counted_desk.specs.History.{IsLegal, Begins, IsOwnOf, IsAnsweredIn};
+ghost use Rattle.counted_desk.specs.History.{IsLegal, Begins, IsOwnOf, AreAnsweredIn};
 
 use crate::answer::{CallFault, Closed, Receipt};
 use crate::journal::Journal;
@@ -47,12 +46,12 @@ impl<M: Machine> Model for Seat<M> {
 }
 
 impl<M: Machine> Seat<M> {
-    /// Says that what the seat has seen is legal, that its own calls stand in it, each once, and that each of
-    /// them has the reply of the machine behind the calls before it.
+    /// Says that what the seat has seen is legal, that its own calls stand in it, each at a place of its own, and
+    /// that each of them has the reply of the machine behind the calls before it.
     pub fn has_seen_a_legal_history(&self)
         ensures legal { IsLegal M.rules self.now.seen }
         ensures own { IsOwnOf self.now.own self.now.seen }
-        ensures answered { AllByRecursion (IsAnsweredIn M.rules self.now.seen) self.now.own }
+        ensures answered { AreAnsweredIn M.rules self.now.seen self.now.own }
     {
         let _lock_seat = &self.lock_seat;
     }

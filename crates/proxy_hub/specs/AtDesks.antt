@@ -1,9 +1,11 @@
 -- What a port of a desk asked, and where it stands in the hub's history.
-use Rattle.std.specs.Prelude.{◌≡◌, ℕ, List, ◌∷◌, ◌++◌, None, map}
+use Rattle.std.specs.Prelude.{◌≡◌, ◌==◌, ℕ, List, [], ◌∷◌, ◌++◌, length, None, map, Result, Ok, Err}
+use Rattle.std.specs.List.{IsDistinct}
 use Rattle.counted_desk.specs.declared.entry.Entry.{Entry}
 use Rattle.counted_desk.specs.declared.answer.CallFault.{CallFault}
 use Rattle.counted_desk.specs.declared.answer.CallFault.TheVariants as call_fault
 use Rattle.counted_desk.specs.History.{entry, behind}
+use Rattle.counted_desk.specs.Calls.{Made, Missed}
 use Rattle.counted_desk.specs.Seats.{Sight}
 use Rattle.proxy_outside.specs.declared.addr.Addr.{Addr}
 use Rattle.proxy_outside.specs.declared.identity.SessionNo.{SessionNo}
@@ -51,6 +53,25 @@ pub record IsAnswered (history : List HubEntry) (asked : HubCommand × HubReply)
   pub after : List HubEntry
   pub place : history ≡ before ++ entry ticket asked.0 asked.1 ∷ after
   pub reply : asked.1 ≡ hub_rules.reply (state_behind before) asked.0
+
+-- each ask stands at its place, which is how many entries stand before it
+abbrev pub AreAt : List HubEntry → List (HubCommand × HubReply) → List ℕ → Type 0
+AreAt history [] [] = Unit {0}
+AreAt history (a ∷ more) (k ∷ ks) = ((x : IsAnswered history a) × (length x.before ≡ k)) × AreAt history more ks
+AreAt history [] (k ∷ ks) = ⊥
+AreAt history (a ∷ more) [] = ⊥
+
+-- each ask stands at a place of its own
+pub record AreAnswered (history : List HubEntry) (asked : List (HubCommand × HubReply)) : Type 0 where
+  pub places : List ℕ
+  pub apart : IsDistinct (λ j k. j == k) places
+  pub each : AreAt history asked places
+
+-- What a seat sees of an ask. The command stands with its reply behind all that the seat had seen; or it stands nowhere, and the desk's journal
+-- is full exactly where the fault says so.
+abbrev pub Sees : Sight HubCommand HubReply → Sight HubCommand HubReply → HubCommand → Result HubReply HubFault → Type 0
+Sees old new c (Ok r) = (place : ℕ) × Made hub_rules old.desk.most old new c (record { place = place; reply = r })
+Sees old new c (Err f) = (e : CallFault) × (f ≡ fault_of e) × Missed hub_rules old.desk.most old new e
 
 -- who was admitted had nothing against a session there, and has the number that was next
 abbrev pub AdmitsTheUnrefused : List HubEntry → Type 0

@@ -94,5 +94,5 @@ Tells (JournalFull n) limit = n ≡ limit
 
 -- by the answer: the command stands at the list's end with its reply, or it was refused and stands nowhere
 abbrev pub Asks : Port → Port → HubCommand → Result HubReply HubFault → Type 0
-Asks old new c (Ok r) = (new.desk ≡ old.desk) × (new.asked ≡ old.asked ++ (c, r) ∷ []) × (old.refusals ≤ new.refusals) × Suits c r
+Asks old new c (Ok r) = (new.desk ≡ old.desk) × (new.asked ≡ old.asked ++ (c, r) ∷ []) × (new.refusals ≡ old.refusals) × Suits c r
 Asks old new c (Err f) = (new.desk ≡ old.desk) × (new.asked ≡ old.asked) × Rose old.refusals new.refusals × Tells f old.desk.most

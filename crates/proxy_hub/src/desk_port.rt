@@ -1,10 +1,9 @@
 //! A hub that threads share, asked by one of them.
 
 ghost use Rattle.std.specs.Prelude.{◌≡◌, [], List};
-ghost use Rattle.std.specs.List.{AllByRecursion};
 ghost use Rattle.counted_desk.specs.History.{IsLegal};
 ghost use Rattle.proxy_hub.specs.Steps.{hub_rules};
-ghost use Rattle.proxy_hub.specs.AtDesks.{at_desk, asked_by, IsAnswered, AdmitsTheUnrefused};
+ghost use Rattle.proxy_hub.specs.AtDesks.{at_desk, asked_by, AreAnswered, AdmitsTheUnrefused};
 
 use crate::command::HubCommand;
 use crate::fault::HubFault;
@@ -60,12 +59,12 @@ impl<'a> DeskPort<'a> {
         seat
     }
 
-    /// Says that all that was asked here stands in one legal history of the hub, where each reply is the hub's
-    /// in the state to which the commands before it lead; so that who was admitted had nothing against a
+    /// Says that all that was asked here stands in one legal history of the hub, each ask at a place of its own,
+    /// where its reply is the hub's in the state to which the commands before it lead; so that who was admitted had nothing against a
     /// session there, by lists, throttle, tenant, pods and numbers.
     pub fn asks_in_one_legal_history(&self)
         ensures legal { IsLegal hub_rules self.now.seat.seen }
-        ensures answered { AllByRecursion (IsAnswered self.now.seat.seen) (asked_by self.now.seat) }
+        ensures answered { AreAnswered self.now.seat.seen (asked_by self.now.seat) }
         ensures admitted { AdmitsTheUnrefused self.now.seat.seen }
     {
         self.seat.has_seen_a_legal_history();
@@ -73,11 +72,17 @@ impl<'a> DeskPort<'a> {
 }
 
 impl<'a> HubPort for DeskPort<'a> {
-    ghost use Rattle.proxy_hub.specs.AtDesks.{port_of};
+    ghost use Rattle.proxy_hub.specs.AtDesks.{port_of, Sees};
+    ghost use Rattle.proxy_hub.specs.Ports.{Asks};
 
     ghost port = { port_of };
 
-    fn ask<R: Wait>(&mut self, rt: &R, c: HubCommand) -> Result<HubReply, HubFault> {
+    /// Beside what every port says, the command stands behind all that the seat had seen; and the answer is
+    /// `JournalFull` exactly where the desk's journal was full at this turn.
+    fn ask<R: Wait>(&mut self, rt: &R, c: HubCommand) -> Result<HubReply, HubFault>
+        ensures asks { Asks (port_of self.old) (port_of self.new) c result }
+        ensures sees { Sees self.old.seat self.new.seat c result }
+    {
         match self.desk.call(rt, &mut self.seat, c) {
             Ok(receipt) => Ok(receipt.reply),
             Err(fault) => {
