@@ -128,6 +128,7 @@ pub record View (S T C : Type 0) : Type 0 where
   pub script : List ℕ
   pub read : ℕ
   pub forwarded : List Frame
+  pub written : ℕ
   pub taken : ℕ
   pub passed : List Frame
   pub received : List ℕ
@@ -145,6 +146,7 @@ view w = record {
   script = w.script;
   read = w.read;
   forwarded = w.forwarded;
+  written = w.written;
   taken = w.taken;
   passed = w.passed;
   received = w.received;
@@ -172,6 +174,7 @@ pub record Parts (S : Type 0) : Type 0 where
 
 pub record Keeps {S T C R : Type 0} (k : Kind S C R) (rules : Rules T C R) (kept : S → Type 0) (key : ClientKey) (p : List Pair) (v : View S T C) (q : Parts S) : Type 0 where
   pub fore : Fore v.script v.read v.forwarded
+  pub written_is : v.written ≡ length v.forwarded
   pub shares : v.forwarded ≡ q.done ++ q.ahead
   pub done_is : length q.done ≡ v.taken
   pub sends : Sends v.sent v.heard q.told (q.ahead ++ q.own_sent)
@@ -189,6 +192,7 @@ module _ {S T C R : Type 0} (k : Kind S C R) (rules : Rules T C R) (kept : S →
   pub keeps_gives : (v : View S T C) (q : Parts S) (b : List ℕ) → K v q → K (record v { script = v.script ++ b }) q
   keeps_gives v q b h = record {
     fore = fore_gives v.script b v.read v.forwarded h.fore;
+    written_is = h.written_is;
     shares = h.shares;
     done_is = h.done_is;
     sends = h.sends;
@@ -203,6 +207,7 @@ module _ {S T C R : Type 0} (k : Kind S C R) (rules : Rules T C R) (kept : S →
   pub keeps_reads : (v : View S T C) (q : Parts S) (n : ℕ) → K v q → K (record v { read = min (length v.script) (v.read + n) }) q
   keeps_reads v q n h = record {
     fore = fore_reads v.script v.read n v.forwarded h.fore;
+    written_is = h.written_is;
     shares = h.shares;
     done_is = h.done_is;
     sends = h.sends;
@@ -215,12 +220,13 @@ module _ {S T C R : Type 0} (k : Kind S C R) (rules : Rules T C R) (kept : S →
   }
 
   pub keeps_forwards : (v : View S T C) (q : Parts S) (f : Frame) → slice_get (frames (take v.read v.script)) (length v.forwarded) ≡ Some f → q.own_sent ≡ [] → K v q
-      → K (record v { forwarded = v.forwarded ++ f ∷ []; sent = v.sent ++ frame_bytes f }) (record q { ahead = q.ahead ++ f ∷ [] })
+      → K (record v { forwarded = v.forwarded ++ f ∷ []; written = v.written + 1; sent = v.sent ++ frame_bytes f }) (record q { ahead = q.ahead ++ f ∷ [] })
   keeps_forwards v q f e none h =
       let good : IsGood f = good_get (frames (take v.read v.script)) (length v.forwarded) f (frames_good (take v.read v.script)) e in
       let plain : Sends v.sent v.heard q.told q.ahead = subst (λ t. Sends v.sent v.heard q.told t) (rw none (append-nil q.ahead)) h.sends in
       record {
         fore = fore_forwards v.script v.read v.forwarded f e h.fore;
+        written_is = ap (λ (n : ℕ). n + 1) h.written_is ∙ sym (length_push v.forwarded f);
         shares = rw h.shares (append_assoc q.done q.ahead (f ∷ []));
         done_is = h.done_is;
         sends = rw (none, append-nil (q.ahead ++ f ∷ [])) (sends_push v.sent v.heard q.told q.ahead f good plain);
@@ -236,6 +242,7 @@ module _ {S T C R : Type 0} (k : Kind S C R) (rules : Rules T C R) (kept : S →
       → K (record v { passed = v.passed ++ f ∷ []; received = v.received ++ frame_bytes (if has_ready v.passed then f else with_key key f); out = v.out + 1 }) (record q { gone = q.gone ++ f ∷ []; owed = more })
   keeps_passes v q f more e h = record {
     fore = h.fore;
+    written_is = h.written_is;
     shares = h.shares;
     done_is = h.done_is;
     sends = h.sends;
@@ -250,6 +257,7 @@ module _ {S T C R : Type 0} (k : Kind S C R) (rules : Rules T C R) (kept : S →
   pub keeps_others : (v : View S T C) (q : Parts S) (c : C) → K v q → K (record v { store = rules.next v.store c; story = v.story ++ Other c ∷ [] }) q
   keeps_others v q c h = record {
     fore = h.fore;
+    written_is = h.written_is;
     shares = h.shares;
     done_is = h.done_is;
     sends = h.sends;
@@ -264,6 +272,7 @@ module _ {S T C R : Type 0} (k : Kind S C R) (rules : Rules T C R) (kept : S →
   pub keeps_cut : (v : View S T C) (q : Parts S) (n : ℕ) → K v q → K (record v { got = take n v.got; cut = true }) q
   keeps_cut v q n h = record {
     fore = h.fore;
+    written_is = h.written_is;
     shares = h.shares;
     done_is = h.done_is;
     sends = h.sends;
@@ -305,6 +314,7 @@ module _ {S T C R : Type 0} (k : Kind S C R) (rules : Rules T C R) (kept : S →
       let gets : Gets v.got v.cut v.out q.gone q.owed = subst (λ t. Gets v.got v.cut v.out q.gone t) (rw none (append-nil q.owed)) h.gets in
       record {
         fore = h.fore;
+        written_is = h.written_is;
         shares = shares ∙ push_to q.done f more;
         done_is = length_push q.done f ∙ ap (λ n. n + 1) h.done_is;
         sends = sends_take v.sent v.heard q.told (more ++ q.own_sent) f sends;

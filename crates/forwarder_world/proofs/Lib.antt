@@ -10,3 +10,5 @@ pub mod News
 pub mod Moves
 pub mod Runs
 pub mod Turning
+pub mod Ending
+pub mod Opening

@@ -18,6 +18,7 @@ use Rattle.transfer_stages.specs.Rows.{is_fault}
 use Rattle.transfer_stages.specs.Exchange as exchange
 use Rattle.transfer_stages.specs.Rows.{is_columns, row_of}
 use Rattle.pgw_messages.specs.declared.pod_key.PodKey.{PodKey}
+use Rattle.transfer_stages.specs.declared.stage.Cut.{Cut}
 use Rattle.transfer_stages.specs.declared.stage.Cut.TheVariants.{Unexpected, Ended, WriteFault}
 use Rattle.transfer_stages.specs.declared.stage.Outcome.TheVariants as outcome
 use Rattle.transfer_stages.specs.declared.stage.Said.{Said}
@@ -28,6 +29,7 @@ use Rattle.transfer_stages.specs.declared.stage.Want.TheVariants as want
 use Rattle.forwarder_world.specs.Link as link
 use Rattle.forwarder_world.specs.Link.{Link}
 use Rattle.forwarder_world.specs.World.{World, Mode, Running, Stop, Exchanging, Closed, closes, moved, fails, comes_to, arrives, awaits_old, awaits_new_by, awaits_new, sends_new, dials, moves_at, moves}
+use Rattle.forwarder_world.specs.declared.event.Close.TheVariants.{ExchangeCut}
 use Rattle.proxy_outside.specs.declared.identity.ClientKey.{ClientKey}
 use Rattle.forwarder_world.proofs.Sums.{Calm}
 use Rattle.forwarder_world.proofs.Lists.{good_get}
@@ -52,8 +54,8 @@ module _ {S T C R : Type 0} (k : Kind S C R) (rules : Rules T C R) (kept : S →
   abbrev K : World S T C → Parts S → Type 0
   K w q = Keeps k rules kept key p (view w) q
 
-  shut : (w : World S T C) (q : Parts S) → K w q → (o : _) → H (closes w o)
-  shut w q h o = record { parts = q; keeps = h; within = tt }
+  shut : (w : World S T C) (q : Parts S) → K w q → (c : Cut) → H (closes w (ExchangeCut c))
+  shut w q h c = record { parts = q; keeps = h; within = refl }
 
   -- the session goes on at the old link
   failed : (w : World S T C) (q : Parts S) → K w q → Answered q [] → H (fails w)
@@ -75,6 +77,7 @@ module _ {S T C R : Type 0} (k : Kind S C R) (rules : Rules T C R) (kept : S →
         parts = record q { own_sent = transfer_query t ∷ [] };
         keeps = record {
           fore = h.fore;
+          written_is = h.written_is;
           shares = h.shares;
           done_is = h.done_is;
           sends = sends_push w.link.sent w.link.taken q.told q.ahead (transfer_query t) (transfer_good t) plain;
@@ -97,6 +100,7 @@ module _ {S T C R : Type 0} (k : Kind S C R) (rules : Rules T C R) (kept : S →
       let gets : Gets w.link.got w.link.cut w.link.out q.gone (f ∷ more) = subst (λ (g : List Frame). Gets w.link.got w.link.cut w.link.out q.gone g) (rw (none, e) refl) h.gets in
       record {
         fore = h.fore;
+        written_is = h.written_is;
         shares = h.shares;
         done_is = h.done_is;
         sends = h.sends;
@@ -253,6 +257,7 @@ module _ {S T C R : Type 0} (k : Kind S C R) (rules : Rules T C R) (kept : S →
         parts = record q { ahead = []; told = restore_query at_m.0 ∷ []; own_sent = []; gone = at_m.1; owed = []; own_got = [] };
         keeps = record {
           fore = h.fore;
+          written_is = h.written_is;
           shares = h.shares ∙ ap (λ (g : List Frame). q.done ++ g) a.1;
           done_is = h.done_is;
           sends = at_m.2.sends;

@@ -49,7 +49,7 @@ module _ {S T C R : Type 0} (k : Kind S C R) (rules : Rules T C R) (kept : S →
   mode_changes q l m Running bears a = absurd (a.1 l refl)
   mode_changes q l m (Stop x y) bears a = absurd (a.1 l refl)
   mode_changes q l m (Exchanging t x) bears a = stage_changes q t l m x bears a
-  mode_changes q l m (Closed c) bears a = tt
+  mode_changes q l m (Closed c) bears a = a
 
   pub changes_hold : (w : World S T C) (h : H w) (l m : Link S) → w.fresh ≡ Some l → Bears h.parts.session (face l) (face m) → H (record w { fresh = Some m })
   changes_hold w h l m e bears = record {

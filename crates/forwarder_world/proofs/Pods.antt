@@ -149,6 +149,7 @@ module _ {S T C R : Type 0} (k : Kind S C R) (rules : Rules T C R) (kept : S →
       let gets : Gets v.got v.cut v.out q.gone [] = subst (λ (t : List Frame). Gets v.got v.cut v.out q.gone t) (rw (no_owed, no_got) refl) h.gets in
       record {
         fore = h.fore;
+        written_is = h.written_is;
         shares = h.shares;
         done_is = h.done_is;
         sends = rw no_ahead (sends_take v.sent v.heard q.told more f sends);

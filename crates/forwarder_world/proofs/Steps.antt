@@ -16,9 +16,9 @@ use Rattle.session_model.specs.SafePoint.{safe, behind_greeting}
 use Rattle.forwarder_world.specs.Link as link
 use Rattle.forwarder_world.specs.Link.{Link}
 use Rattle.session_model.specs.Heard.{has_ready}
-use Rattle.forwarder_world.specs.World.{World, Mode, Running, Stop, Exchanging, Closed, forwarding, passing, closes, client_ends, forwards, passes, stops, parks, holds, begins}
+use Rattle.forwarder_world.specs.World.{World, Mode, Running, Stop, Exchanging, Closed, forwarding, passing, closes, client_ends, hands_out, writes, forwards, unwritten_by, passes, stops, parks, holds, begins}
 use Rattle.forwarder_world.specs.declared.event.Close.{Close}
-use Rattle.forwarder_world.specs.declared.event.Close.TheVariants.{Bye, ClientCut, BadClient, PodEnded, PodWrite}
+use Rattle.forwarder_world.specs.declared.event.Close.TheVariants.{Bye, ClientCut, BadClient, PodEnded}
 use Rattle.proxy_outside.specs.declared.identity.ClientKey.{ClientKey}
 use Rattle.forwarder_world.proofs.Sums.{Calm, safe_is_calm}
 use Rattle.forwarder_world.proofs.Links.{gets_next}
@@ -85,29 +85,33 @@ module _ {S T C R : Type 0} (k : Kind S C R) (rules : Rules T C R) (kept : S →
   from_passing q fresh (Exchanging t x) e m = absurd cc
   from_passing q fresh (Closed c) e m = absurd cc
 
-  pub closed : (w : World S T C) (c : Close) → H w → H (closes w c)
-  closed w c h = record { parts = h.parts; keeps = h.keeps; within = tt }
+  closed : (w : World S T C) (c : Close) → unwritten_by c ≡ 0 → H w → H (closes w c)
+  closed w c e h = record { parts = h.parts; keeps = h.keeps; within = e }
 
   ends_holds : (w : World S T C) → H w → H (client_ends w)
-  ends_holds w h = cond_both (w.whole && (w.read == length w.script)) (closes w (if length (rest (take w.read w.script)) == 0 then Bye else ClientCut)) w (λ v. H v) (λ e. closed w _ h) (λ e. h)
+  ends_holds w h = cond_both (w.whole && (w.read == length w.script)) (closes w (if length (rest (take w.read w.script)) == 0 then Bye else ClientCut)) w (λ v. H v)
+      (λ e. closed w _ (cond_both (length (rest (take w.read w.script)) == 0) Bye ClientCut (λ c. unwritten_by c ≡ 0) (λ x. refl) (λ x. refl)) h)
+      (λ e. h)
 
-  pub forward_holds : (w : World S T C) (o : Option Frame) (n : Option ℕ) → forwarding w.mode ≡ true → slice_get (frames (take w.read w.script)) (length w.forwarded) ≡ o → H w → H (forwards w o n)
-  forward_holds w None None going e h = ends_holds w h
-  forward_holds w None (Some n) going e h = closed w (BadClient n) h
-  forward_holds w (Some f) n going e h =
+  -- what is handed out is sent
+  pub write_holds : (w : World S T C) (f : Frame) → forwarding w.mode ≡ true → slice_get (frames (take w.read w.script)) (length w.forwarded) ≡ Some f → H w → H (writes (hands_out w f) f)
+  write_holds w f going e h =
       let q : Parts S = h.parts in
       let m : Plain q w.fresh = plain_forwarding q w.fresh w.mode going h.within in
       let next : Parts S = record q { ahead = q.ahead ++ f ∷ [] } in
-      cond_both w.link.cut (closes w PodWrite) (record w { forwarded = w.forwarded ++ f ∷ []; link = link.sends w.link f; mode = if f.tag == 88 then Closed Bye else w.mode }) (λ v. H v)
-      (λ c. closed w PodWrite h)
-      (λ c. record {
+      record {
         parts = next;
         keeps = keeps_forwards k rules kept laws key p (view w) q f e m.0.0 h.keeps;
-        within = cond_both (f.tag == 88) (Closed Bye) w.mode (λ x. M next w.fresh x) (λ y. tt) (λ y. from_forwarding next w.fresh w.mode going m);
-      })
+        within = cond_both (f.tag == 88) (Closed Bye) w.mode (λ x. M next w.fresh x) (λ y. refl) (λ y. from_forwarding next w.fresh w.mode going m);
+      }
+
+  -- nothing is handed out
+  pub idle_holds : (w : World S T C) (n : Option ℕ) → H w → H (forwards w None n)
+  idle_holds w None h = ends_holds w h
+  idle_holds w (Some n) h = closed w (BadClient n) refl h
 
   pub pass_holds : (w : World S T C) (o : Option Frame) → passing w.mode ≡ true → link.next_of_read w.link ≡ o → H w → H (passes key w o)
-  pass_holds w None going e h = cond_both (w.link.cut && (w.link.back == length w.link.got)) (closes w PodEnded) w (λ v. H v) (λ c. closed w PodEnded h) (λ c. h)
+  pass_holds w None going e h = cond_both (w.link.cut && (w.link.back == length w.link.got)) (closes w PodEnded) w (λ v. H v) (λ c. closed w PodEnded refl h) (λ c. h)
   pass_holds w (Some f) going e h =
       let q : Parts S = h.parts in
       let m : Plain q w.fresh = plain_passing q w.fresh w.mode going h.within in

@@ -1,4 +1,4 @@
--- When an exchange begins, and what its end brings.
+-- When an exchange begins.
 use Rattle.std.proofs.Common.{◌≡◌, ℕ, Bool, true, false, List, [], ◌∷◌, ◌++◌, length, take, Option, Some, None, refl, ap, subst, ◌∙◌}
 use Rattle.std.specs.Prelude.{slice_get, ◌==◌, ◌&&◌, nat_lt, if◌then◌else◌}
 use Rattle.std.proofs.lemmas.Bool.{cond_both}
@@ -8,57 +8,58 @@ use Rattle.proxy_outside.specs.Rules.{Rules}
 use Rattle.session_model.specs.Kind.{Kind}
 use Rattle.pgw_messages.specs.declared.params.Pair.{Pair}
 use Rattle.session_model.specs.declared.transfer.TransferKey.{TransferKey}
-use Rattle.transfer_stages.specs.declared.stage.Outcome.{Outcome}
-use Rattle.transfer_stages.specs.declared.stage.Outcome.TheVariants as outcome
 use Rattle.transfer_stages.specs.declared.stage.Stage.{Stage}
 use Rattle.transfer_stages.specs.declared.stage.Stage.TheVariants as at
 use Rattle.session_model.specs.SafePoint.{safe, behind_greeting}
 use Rattle.forwarder_world.specs.Link as link
 use Rattle.forwarder_world.specs.Link.{Link}
 use Rattle.session_model.specs.Heard.{has_ready}
-use Rattle.forwarder_world.specs.World.{World, Mode, Running, Stop, Exchanging, Closed, forwarding, passing, may_give, gives, reads, forwards, passes, closes, pod_takes, pod_takes_client, pod_takes_own, stops, parks, holds, begins, moves, changes_new, new_pod, new_pod_by, new_hears, moved, steps, is_closed}
-use Rattle.forwarder_world.specs.Turns.{is_exchange, Begins, BeginsSafely, Resumes, EndsBy}
+use Rattle.forwarder_world.specs.World.{World, Mode, Running, Stop, Exchanging, Closed, forwarding, passing, may_give, gives, reads, hands_out, writes, forwards, passes, closes, pod_takes, pod_takes_client, pod_takes_own, stops, parks, holds, begins, moves, changes_new, new_pod, new_pod_by, new_hears, steps, is_closed}
+use Rattle.forwarder_world.specs.Turns.{is_exchange, Begins, BeginsSafely, Resumes}
 use Rattle.forwarder_world.specs.declared.event.Event.{Event}
 use Rattle.forwarder_world.specs.declared.event.Event.TheVariants as event
 use Rattle.forwarder_world.specs.declared.event.Close.TheVariants.{Bye, ClientCut, PodEnded, PodWrite}
 use Rattle.proxy_outside.specs.declared.identity.ClientKey.{ClientKey}
 
 module _ {S T C R : Type 0} (k : Kind S C R) (rules : Rules T C R) (key : ClientKey) (p : List Pair) where
-  -- no exchange is under way
+  -- whether an exchange is under way
+  abbrev Is : Bool → World S T C → Type 0
+  Is b w = is_exchange w.mode ≡ b
+
   abbrev Tame : World S T C → Type 0
-  Tame w = is_exchange w.mode ≡ false
+  Tame w = Is false w
 
   tame_forwards : (w : World S T C) (o : Option Frame) (n : Option ℕ) → Tame w → Tame (forwards w o n)
   tame_forwards w None None h = cond_both (w.whole && (w.read == length w.script)) (closes w (if length (rest (take w.read w.script)) == 0 then Bye else ClientCut)) w Tame (λ e. refl) (λ e. h)
   tame_forwards w None (Some n) h = refl
   tame_forwards w (Some f) n h =
-      cond_both w.link.cut (closes w PodWrite) (record w { forwarded = w.forwarded ++ f ∷ []; link = link.sends w.link f; mode = if f.tag == 88 then Closed Bye else w.mode }) Tame (λ e. refl)
+      cond_both w.link.cut (closes (hands_out w f) PodWrite) (writes (hands_out w f) f) Tame (λ e. refl)
       (λ e. cond_both (f.tag == 88) (Closed Bye) w.mode (λ (m : Mode). is_exchange m ≡ false) (λ d. refl) (λ d. h))
 
   tame_passes : (w : World S T C) (o : Option Frame) → Tame w → Tame (passes key w o)
   tame_passes w None h = cond_both (w.link.cut && (w.link.back == length w.link.got)) (closes w PodEnded) w Tame (λ e. refl) (λ e. h)
   tame_passes w (Some f) h = h
 
-  tame_pod : (w : World S T C) (o : Option S) (f : Option Frame) → Tame w → Tame (pod_takes k rules w o f)
-  tame_pod w None f h = h
-  tame_pod w (Some s) None h = h
-  tame_pod w (Some s) (Some f) h = cond_both (nat_lt w.taken (length w.forwarded)) (pod_takes_client k rules w s f) (pod_takes_own k rules w s f) Tame (λ e. h) (λ e. h)
+  pub tame_pod : (b : Bool) (w : World S T C) (o : Option S) (f : Option Frame) → Is b w → Is b (pod_takes k rules w o f)
+  tame_pod b w None f h = h
+  tame_pod b w (Some s) None h = h
+  tame_pod b w (Some s) (Some f) h = cond_both (nat_lt w.taken (length w.forwarded)) (pod_takes_client k rules w s f) (pod_takes_own k rules w s f) (λ v. Is b v) (λ e. h) (λ e. h)
 
-  tame_changes : (w : World S T C) (change : Link S → Link S) (o : Option (Link S)) → Tame w → Tame (changes_new w change o)
-  tame_changes w change None h = h
-  tame_changes w change (Some l) h = cond_both l.cut w (record w { fresh = Some (change l) }) Tame (λ e. h) (λ e. h)
+  pub tame_changes : (b : Bool) (w : World S T C) (change : Link S → Link S) (o : Option (Link S)) → Is b w → Is b (changes_new w change o)
+  tame_changes b w change None h = h
+  tame_changes b w change (Some l) h = cond_both l.cut w (record w { fresh = Some (change l) }) (λ v. Is b v) (λ e. h) (λ e. h)
 
-  tame_hears : (w : World S T C) (l : Link S) (s : S) (f : Option Frame) → Tame w → Tame (new_hears k rules w l s f)
-  tame_hears w l s None h = h
-  tame_hears w l s (Some f) h = h
+  pub tame_hears : (b : Bool) (w : World S T C) (l : Link S) (s : S) (f : Option Frame) → Is b w → Is b (new_hears k rules w l s f)
+  tame_hears b w l s None h = h
+  tame_hears b w l s (Some f) h = h
 
-  tame_by : (w : World S T C) (l : Link S) (o : Option S) → Tame w → Tame (new_pod_by k rules p w l o)
-  tame_by w l None h = h
-  tame_by w l (Some s) h = tame_hears w l s (link.next_to_pod l) h
+  pub tame_by : (b : Bool) (w : World S T C) (l : Link S) (o : Option S) → Is b w → Is b (new_pod_by k rules p w l o)
+  tame_by b w l None h = h
+  tame_by b w l (Some s) h = tame_hears b w l s (link.next_to_pod l) h
 
-  tame_new : (w : World S T C) (o : Option (Link S)) → Tame w → Tame (new_pod k rules p w o)
-  tame_new w None h = h
-  tame_new w (Some l) h = cond_both l.cut w (new_pod_by k rules p w l l.session) Tame (λ e. h) (λ e. tame_by w l l.session h)
+  pub tame_new : (b : Bool) (w : World S T C) (o : Option (Link S)) → Is b w → Is b (new_pod k rules p w o)
+  tame_new b w None h = h
+  tame_new b w (Some l) h = cond_both l.cut w (new_pod_by k rules p w l l.session) (λ v. Is b v) (λ e. h) (λ e. tame_by b w l l.session h)
 
   tame_stops : (w : World S T C) (m : Mode) → Tame w → Tame (stops w m)
   tame_stops w Running h = cond_both (has_ready w.passed) (record w { mode = Stop false false }) w Tame (λ e. refl) (λ e. h)
@@ -118,7 +119,7 @@ module _ {S T C R : Type 0} (k : Kind S C R) (rules : Rules T C R) (key : Client
       absurd (not_tame (steps k rules key p w event.Forward) t x is
       (cond_both (forwarding w.mode) (forwards w (slice_get (frames (take w.read w.script)) (length w.forwarded)) (bad (take w.read w.script))) w Tame (λ e. tame_forwards w _ _ h) (λ e. h)))
   steps_begin w (event.Deliver n) t x h is = absurd (not_tame (steps k rules key p w (event.Deliver n)) t x is (cond_both w.link.cut w (record w { link = link.delivers w.link n }) Tame (λ e. h) (λ e. h)))
-  steps_begin w event.Pod t x h is = absurd (not_tame (steps k rules key p w event.Pod) t x is (cond_both w.link.cut w (pod_takes k rules w w.link.session (link.next_to_pod w.link)) Tame (λ e. h) (λ e. tame_pod w w.link.session (link.next_to_pod w.link) h)))
+  steps_begin w event.Pod t x h is = absurd (not_tame (steps k rules key p w event.Pod) t x is (cond_both w.link.cut w (pod_takes k rules w w.link.session (link.next_to_pod w.link)) Tame (λ e. h) (λ e. tame_pod false w w.link.session (link.next_to_pod w.link) h)))
   steps_begin w (event.Back n) t x h is = absurd (not_tame (steps k rules key p w (event.Back n)) t x is (cond_both (passing w.mode) (record w { link = link.reads_back w.link n }) w Tame (λ e. h) (λ e. h)))
   steps_begin w event.Pass t x h is = absurd (not_tame (steps k rules key p w event.Pass) t x is (cond_both (passing w.mode) (passes key w (link.next_of_read w.link)) w Tame (λ e. tame_passes w (link.next_of_read w.link) h) (λ e. h)))
   steps_begin w (event.Other c) t x h is = absurd (not_tame w t x is h)
@@ -127,10 +128,10 @@ module _ {S T C R : Type 0} (k : Kind S C R) (rules : Rules T C R) (key : Client
   steps_begin w event.Hold t x h is = absurd (not_tame (holds w w.mode) t x is (tame_holds w w.mode h))
   steps_begin w (event.Start u) t x h is = starts w u t x w.mode refl h is
   steps_begin w event.Move t x h is = absurd (not_tame (moves w p w.mode) t x is (tame_moves w w.mode refl h))
-  steps_begin w (event.DeliverNew n) t x h is = absurd (not_tame (steps k rules key p w (event.DeliverNew n)) t x is (tame_changes w (λ l. link.delivers l n) w.fresh h))
-  steps_begin w event.PodNew t x h is = absurd (not_tame (new_pod k rules p w w.fresh) t x is (tame_new w w.fresh h))
+  steps_begin w (event.DeliverNew n) t x h is = absurd (not_tame (steps k rules key p w (event.DeliverNew n)) t x is (tame_changes false w (λ l. link.delivers l n) w.fresh h))
+  steps_begin w event.PodNew t x h is = absurd (not_tame (new_pod k rules p w w.fresh) t x is (tame_new false w w.fresh h))
   steps_begin w (event.Cut n) t x h is = absurd (not_tame (steps k rules key p w (event.Cut n)) t x is (cond_both w.link.cut w (record w { link = link.cuts w.link n }) Tame (λ e. h) (λ e. h)))
-  steps_begin w (event.CutNew n) t x h is = absurd (not_tame (steps k rules key p w (event.CutNew n)) t x is (tame_changes w (λ l. link.cuts l n) w.fresh h))
+  steps_begin w (event.CutNew n) t x h is = absurd (not_tame (steps k rules key p w (event.CutNew n)) t x is (tame_changes false w (λ l. link.cuts l n) w.fresh h))
   steps_begin w event.NoDial t x h is = absurd (not_tame w t x is h)
 
   pub begins_safely : (w : World S T C) (e : Event C) → BeginsSafely k rules key p w e
@@ -139,11 +140,3 @@ module _ {S T C R : Type 0} (k : Kind S C R) (rules : Rules T C R) (key : Client
 
   pub resumes : (w : World S T C) (t : TransferKey) → Resumes k rules key p w t
   resumes w t e s = ap (λ (m : Mode). if is_closed m then w else begins w t m) e ∙ ap (λ (b : Bool). record w { mode = if b then Exchanging t at.AskOld else Running }) s
-
-pub ends_by : {S T C : Type 0} (w : World S T C) (o : Outcome) → EndsBy w o
-ends_by {S} w (outcome.Moved key) = λ l e. ap (λ (o : Option (Link S)). moved w o) e
-ends_by w (outcome.OldCut c) = refl
-ends_by w (outcome.Refused r) = refl
-ends_by w (outcome.RevivalRefused f) = refl
-ends_by w outcome.DialFault = refl
-ends_by w (outcome.NewCut c) = refl

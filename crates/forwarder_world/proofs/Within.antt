@@ -12,7 +12,7 @@ use Rattle.transfer_stages.specs.declared.stage.Said.TheVariants.{Given, Refuses
 use Rattle.transfer_stages.specs.declared.stage.Stage.{Stage}
 use Rattle.transfer_stages.specs.declared.stage.Stage.TheVariants as at
 use Rattle.forwarder_world.specs.Link.{Link}
-use Rattle.forwarder_world.specs.World.{World, Mode, Running, Stop, Exchanging, Closed}
+use Rattle.forwarder_world.specs.World.{World, Mode, Running, Stop, Exchanging, Closed, unwritten_by}
 use Rattle.proxy_outside.specs.declared.identity.ClientKey.{ClientKey}
 use Rattle.forwarder_world.proofs.Sums.{Calm}
 use Rattle.forwarder_world.proofs.Links.{Sends, Gets}
@@ -142,7 +142,7 @@ abbrev pub InMode : {S C R : Type 0} → Kind S C R → List Pair → Parts S �
 InMode k p q fresh Running = Plain q fresh
 InMode k p q fresh (Stop parked held) = Plain q fresh
 InMode k p q fresh (Exchanging t x) = AtStage k p t q fresh x
-InMode k p q fresh (Closed c) = Unit {0}
+InMode k p q fresh (Closed c) = unwritten_by c ≡ 0
 
 pub record Holds {S T C R : Type 0} (k : Kind S C R) (rules : Rules T C R) (kept : S → Type 0) (key : ClientKey) (p : List Pair) (w : World S T C) : Type 0 where
   pub parts : Parts S

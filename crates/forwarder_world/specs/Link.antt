@@ -68,6 +68,14 @@ passes l = record l { out = l.out + 1 }
 abbrev pub takes : {S : Type 0} → Link S → Frame → Link S
 takes l f = record l { out = l.out + 1; back = l.back + length (frame_bytes f) }
 
+-- the next message that is whole among all that came is read, where there is one
+abbrev pub taken_by : {S : Type 0} → Link S → Option Frame → Link S
+taken_by l None = l
+taken_by l (Some f) = takes l f
+
+abbrev pub takes_next : {S : Type 0} → Link S → Link S
+takes_next l = taken_by l (next_of_got l)
+
 -- all that was read was handed out
 abbrev pub holds_nothing : {S : Type 0} → Link S → Bool
 holds_nothing l = l.back == length (render (take l.out (frames l.got)))

@@ -39,6 +39,7 @@ pub record World (S T C : Type 0) : Type 0 where
   pub whole : Bool  -- the client gives no more
   pub read : ℕ  -- how many bytes of it were read
   pub forwarded : List Frame  -- what the request processor handed out
+  pub written : ℕ  -- how many of these were sent to a pod
   pub taken : ℕ  -- how many of these a pod took
   pub passed : List Frame  -- what the response processor handed out
   pub link : Link S
@@ -57,6 +58,7 @@ start k rules p = record {
   whole = false;
   read = 0;
   forwarded = [];
+  written = 0;
   taken = 0;
   passed = [];
   link = link.opened k p (startup_packet p);
@@ -78,6 +80,21 @@ phase_of (Stop true held) = phase.Parked
 phase_of (Exchanging t x) = phase.Exchange
 phase_of (Closed c) = phase.Closed c
 
+-- how many of the messages that were handed out were not sent: at a podwrite the last one
+abbrev pub unwritten_by : Close → ℕ
+unwritten_by PodWrite = 1
+unwritten_by Bye = 0
+unwritten_by ClientCut = 0
+unwritten_by (BadClient n) = 0
+unwritten_by PodEnded = 0
+unwritten_by (ExchangeCut c) = 0
+
+abbrev pub unwritten : Mode → ℕ
+unwritten Running = 0
+unwritten (Stop parked held) = 0
+unwritten (Exchanging t x) = 0
+unwritten (Closed c) = unwritten_by c
+
 -- counts stop at the greatest number that they hold
 abbrev pub counted : ℕ → ℕ
 counted n = min n (2 ^ 64 - 1)
@@ -87,7 +104,7 @@ counts_of w = record {
   moves = counted w.moves;
   failed = counted w.failed;
   taken = counted w.read;
-  forwarded = counted (length w.forwarded);
+  forwarded = counted w.written;
   passed = counted (length w.passed);
 }
 
@@ -127,10 +144,16 @@ client_ends w =
     then closes w (if length (rest (take w.read w.script)) == 0 then Bye else ClientCut)
     else w
 
+-- the request processor hands out a message
+abbrev pub hands_out : {S T C : Type 0} → World S T C → Frame → World S T C
+hands_out w f = record w { forwarded = w.forwarded ++ f ∷ [] }
+
+-- it is sent to the pod; a Terminate (PostgreSQL manual, Message Flow, Termination) ends the connection
+abbrev pub writes : {S T C : Type 0} → World S T C → Frame → World S T C
+writes w f = record w { written = w.written + 1; link = link.sends w.link f; mode = if f.tag == 88 then Closed Bye else w.mode }
+
 abbrev pub forwards : {S T C : Type 0} → World S T C → Option Frame → Option ℕ → World S T C
-forwards w (Some f) _ =
-    if w.link.cut then closes w PodWrite
-    else record w { forwarded = w.forwarded ++ f ∷ []; link = link.sends w.link f; mode = if f.tag == 88 then Closed Bye else w.mode }
+forwards w (Some f) _ = if w.link.cut then closes (hands_out w f) PodWrite else writes (hands_out w f) f
 forwards w None (Some n) = closes w (BadClient n)
 forwards w None None = client_ends w
 
