@@ -19,7 +19,7 @@ use Rattle.processor_core.specs.declared.request.Request.{Request}
 use Rattle.forwarder_world.specs.declared.counts.Counts.{Counts}
 use Rattle.forwarder_world.specs.declared.event.Close.TheVariants.{Bye, ClientCut, PodEnded, PodWrite}
 use Rattle.forwarder_world.specs.Link as model
-use Rattle.forwarder_world.specs.World.{World, Mode, Closed, counted, closes, client_ends, forwards, passes, pod_takes, pod_takes_client, pod_takes_own, new_pod, new_pod_by, new_hears}
+use Rattle.forwarder_world.specs.World.{World, Mode, Closed, counted, closes, client_ends, hands_out, writes, forwards, passes, pod_takes, pod_takes_client, pod_takes_own, new_pod, new_pod_by, new_hears}
 use Rattle.forwarder_core.specs.LinkStands.{LinkStands, FreshStands, listens, turn, opens_or_hears}
 use Rattle.forwarder_core.specs.Flow.{Flow, flow_of, counts_in, SideStands, ConnectionStands, HandsOut, Tells, Comes}
 use Rattle.forwarder_core.specs.declared.connection.Connection.{Connection}
@@ -210,12 +210,12 @@ module _ {S T C : Type 0} (d : World S T C) where
   pub client_cut : (d.whole && (d.read == length d.script)) ≡ true → (length (rest (take d.read d.script)) == 0) ≡ false → client_ends d ≡ closes d ClientCut
   client_cut e r = client_at_end e ∙ ap ends_by r
 
-  pub write_fails : (f : Frame) (n : Option ℕ) → d.link.cut ≡ true → forwards d (Some f) n ≡ closes d PodWrite
-  write_fails f n e = ap (λ (b : Bool). if b then closes d PodWrite else record d { forwarded = d.forwarded ++ f ∷ []; link = model.sends d.link f; mode = if f.tag == 88 then Closed Bye else d.mode }) e
+  pub write_fails : (f : Frame) (n : Option ℕ) → d.link.cut ≡ true → forwards d (Some f) n ≡ closes (hands_out d f) PodWrite
+  write_fails f n e = ap (λ (b : Bool). if b then closes (hands_out d f) PodWrite else writes (hands_out d f) f) e
 
   pub write_goes : (f : Frame) (n : Option ℕ) → d.link.cut ≡ false
-      → forwards d (Some f) n ≡ record d { forwarded = d.forwarded ++ f ∷ []; link = model.sends d.link f; mode = if f.tag == 88 then Closed Bye else d.mode }
-  write_goes f n e = ap (λ (b : Bool). if b then closes d PodWrite else record d { forwarded = d.forwarded ++ f ∷ []; link = model.sends d.link f; mode = if f.tag == 88 then Closed Bye else d.mode }) e
+      → forwards d (Some f) n ≡ writes (hands_out d f) f
+  write_goes f n e = ap (λ (b : Bool). if b then closes (hands_out d f) PodWrite else writes (hands_out d f) f) e
 
 -- with no message left, what is left is what is held
 pub rest_empty : (handed : List Frame) (held fed : List ℕ) → next_message fed handed ≡ None → Cuts handed held fed → (length (rest fed) == 0) ≡ (length fed == length (render handed))
@@ -237,8 +237,8 @@ and_true false y e = refl
 module _ {X Y C R S T : Type 0} (state : X → S) (stands_for : Y → T → Type 0) (key : ClientKey) (p : List Pair) where
   -- a message of the client was sent
   pub sent_on : (c : Connection X Y C R) (fl : Flow S T) (held : Bool) (f : Frame) (l : Link X Y C R) (m : model.Link S) (n : ℕ) → HandsOut state stands_for key p c fl f held
-      → ((x : List ℕ) → LinkStands state c.link fl.link x → LinkStands state l m x) → n ≡ counted (length (fl.forwarded ++ f ∷ []))
-      → ConnectionStands state stands_for key p (record c { link = l; counts = record c.counts { forwarded = n } }) (record fl { forwarded = fl.forwarded ++ f ∷ []; link = m }) false held
+      → ((x : List ℕ) → LinkStands state c.link fl.link x → LinkStands state l m x) → n ≡ counted (fl.written + 1)
+      → ConnectionStands state stands_for key p (record c { link = l; counts = record c.counts { forwarded = n } }) (record fl { forwarded = fl.forwarded ++ f ∷ []; written = fl.written + 1; link = m }) false held
   sent_on c fl held f l m n h on count =
       let old = h.1 in
       record {

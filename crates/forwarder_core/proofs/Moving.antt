@@ -1,6 +1,6 @@
 -- The steps of a transfer, by what is wanted.
 use Rattle.std.proofs.Common.{◌≡◌, ℕ, ◌+◌, Bool, true, false, List, [], ◌∷◌, length, Option, Some, None, refl, sym, ap, subst, ◌∙◌, ◌⊎◌, inl, inr}
-use Rattle.std.specs.Prelude.{not, nat_lt, ◌&&◌, ◌==◌, codes, if◌then◌else◌}
+use Rattle.std.specs.Prelude.{not, nat_lt, is_some, ◌&&◌, ◌==◌, codes, if◌then◌else◌}
 use Rattle.std.specs.Str.{bytes_eq}
 use Rattle.std.specs.List.{AllByRecursion}
 use Rattle.pgw_frames.specs.declared.frame.Frame.{Frame}
@@ -27,11 +27,10 @@ use Rattle.forwarder_world.specs.Link as link
 use Rattle.forwarder_world.specs.World.{World, Mode, Exchanging, closes, comes_to, fails, moved, arrives, arrives_by, awaits_old, awaits_new, awaits_new_by, sends_new, moves_at}
 use Rattle.forwarder_core.specs.LinkStands.{LinkStands}
 use Rattle.forwarder_core.specs.Flow.{flow_of, ConnectionStands}
-use Rattle.forwarder_core.specs.Stands.{Unsent, ForwarderStands}
+use Rattle.forwarder_core.specs.Stands.{Unsent}
 use Rattle.forwarder_core.specs.Starting.{is_plain, has_zero}
-use Rattle.forwarder_core.specs.Transfers.{Under, IsNew, is_old_end, close_by, Arrives, ArrivesNew}
+use Rattle.forwarder_core.specs.Transfers.{CanEnd, Advanced, AdvancedNew, is_old_end, close_by}
 use Rattle.forwarder_core.specs.declared.connection.Connection.{Connection}
-use Rattle.forwarder_core.specs.declared.forwarder.Forwarder.{Forwarder}
 use Rattle.forwarder_core.specs.declared.link.Link.{Link}
 
 -- ---- stages, by what is wanted
@@ -108,9 +107,30 @@ pub not_true : (b : Bool) → not b ≡ true → b ≡ false
 not_true true e = absurd cc
 not_true false e = refl
 
+pub is_none_so : {A : Type 0} (o : Option A) → is_some o ≡ false → o ≡ None
+is_none_so None e = refl
+is_none_so (Some x) e = absurd cc
+
 pub not_false : (b : Bool) → not b ≡ false → b ≡ true
 not_false true e = refl
 not_false false e = absurd cc
+
+pub not_ended : (x : Stage) → wants x ≡ want.Ended → ended x ≡ None → ⊥
+not_ended (at.Ended o) e n = absurd cc
+not_ended at.AskOld e n = absurd cc
+not_ended at.OldColumns e n = absurd cc
+not_ended at.OldRow e n = absurd cc
+not_ended (at.OldTag s) e n = absurd cc
+not_ended (at.OldReady s) e n = absurd cc
+not_ended (at.Dial state token) e n = absurd cc
+not_ended (at.Packet state token) e n = absurd cc
+not_ended (at.NewAuth state) e n = absurd cc
+not_ended (at.NewStatus state m key) e n = absurd cc
+not_ended (at.Restore state key) e n = absurd cc
+not_ended (at.NewColumns key) e n = absurd cc
+not_ended (at.NewRow key) e n = absurd cc
+not_ended (at.NewTag key) e n = absurd cc
+not_ended (at.NewReady key) e n = absurd cc
 
 -- a stage that awaits a message has not ended, and sends no packet
 pub record Waits (x : Stage) : Type 0 where
@@ -238,25 +258,8 @@ module _ {S T C : Type 0} (d : World S T C) (t : TransferKey) (p : List Pair) wh
   awaits_new_is (at.Restore state key) e = absurd cc
   awaits_new_is (at.Ended o) e = absurd cc
 
-  pub ended_is : (x : Stage) → wants x ≡ want.Ended → moves_at d t p x ≡ d
-  ended_is (at.Ended o) e = refl
-  ended_is at.AskOld e = absurd cc
-  ended_is at.OldColumns e = absurd cc
-  ended_is at.OldRow e = absurd cc
-  ended_is (at.OldTag s) e = absurd cc
-  ended_is (at.OldReady s) e = absurd cc
-  ended_is (at.Dial state token) e = absurd cc
-  ended_is (at.Packet state token) e = absurd cc
-  ended_is (at.NewAuth state) e = absurd cc
-  ended_is (at.NewStatus state n key) e = absurd cc
-  ended_is (at.Restore state key) e = absurd cc
-  ended_is (at.NewColumns key) e = absurd cc
-  ended_is (at.NewRow key) e = absurd cc
-  ended_is (at.NewTag key) e = absurd cc
-  ended_is (at.NewReady key) e = absurd cc
-
   -- without a new link nothing happens
-  pub no_link : (x : Stage) → IsNew (wants x) → d.fresh ≡ None → moves_at d t p x ≡ d
+  pub no_link : (x : Stage) → wants x ≡ want.SendNew ⊎ wants x ≡ want.AwaitNew → d.fresh ≡ None → moves_at d t p x ≡ d
   no_link (at.Packet state token) w e = ap (λ (o : Option (link.Link S)). sends_new d t (λ l. link.opens l (packet p token)) (at.NewAuth state) o) e
   no_link (at.Restore state key) w e = ap (λ (o : Option (link.Link S)). sends_new d t (λ l. link.sends l (restore_query state)) (at.NewColumns key) o) e
   no_link (at.NewAuth state) w e = ap (λ (o : Option (link.Link S)). awaits_new d t p (at.NewAuth state) o) e
@@ -265,13 +268,13 @@ module _ {S T C : Type 0} (d : World S T C) (t : TransferKey) (p : List Pair) wh
   no_link (at.NewRow key) w e = ap (λ (o : Option (link.Link S)). awaits_new d t p (at.NewRow key) o) e
   no_link (at.NewTag key) w e = ap (λ (o : Option (link.Link S)). awaits_new d t p (at.NewTag key) o) e
   no_link (at.NewReady key) w e = ap (λ (o : Option (link.Link S)). awaits_new d t p (at.NewReady key) o) e
-  no_link at.AskOld w e = absurd w
-  no_link at.OldColumns w e = absurd w
-  no_link at.OldRow w e = absurd w
-  no_link (at.OldTag s) w e = absurd w
-  no_link (at.OldReady s) w e = absurd w
-  no_link (at.Dial state token) w e = absurd w
-  no_link (at.Ended o) w e = absurd w
+  no_link at.AskOld w e = absurd (elim w [ inl a ↦ cc | inr b ↦ cc ])
+  no_link at.OldColumns w e = absurd (elim w [ inl a ↦ cc | inr b ↦ cc ])
+  no_link at.OldRow w e = absurd (elim w [ inl a ↦ cc | inr b ↦ cc ])
+  no_link (at.OldTag s) w e = absurd (elim w [ inl a ↦ cc | inr b ↦ cc ])
+  no_link (at.OldReady s) w e = absurd (elim w [ inl a ↦ cc | inr b ↦ cc ])
+  no_link (at.Dial state token) w e = absurd (elim w [ inl a ↦ cc | inr b ↦ cc ])
+  no_link (at.Ended o) w e = absurd (elim w [ inl a ↦ cc | inr b ↦ cc ])
 
   -- a link that is cut
   pub write_fails : (x : Stage) (m : link.Link S) → wants x ≡ want.SendNew → d.fresh ≡ Some m → m.cut ≡ true → moves_at d t p x ≡ fails d
@@ -341,62 +344,59 @@ moves_so d (outcome.OldCut k) e = absurd cc
 
 -- ---- what the program's step leads to
 
-module _ {X Y C R S T : Type 0} (state : X → S) (stands_for : Y → T → Type 0) (key : ClientKey) (p : List Pair) (t : TransferKey) where
-  pub arrived : (old new : Forwarder X Y C R) (e : Course) (d : World S T C) (x : Stage) → Arrives state stands_for old new e → stage_of e ≡ x → Under state stands_for key p t old e d
-      → is_old_end (ended x) ≡ true → Unsent x d.fresh → ForwarderStands state stands_for key p new (arrives d t x)
-  arrived old new e d x a is u end unsent =
-      subst (λ (y : Stage). ForwarderStands state stands_for key p new (arrives d t y)) is
-      (a key p t d u (subst (λ (y : Stage). is_old_end (ended y) ≡ true) (sym is) end) (subst (λ (y : Stage). Unsent y d.fresh) (sym is) unsent))
+pub can_old : {S : Type 0} (o : Option Outcome) (fresh : Option (link.Link S)) → is_old_end o ≡ true → CanEnd o fresh
+can_old o fresh e off = absurd cc
 
-  pub arrived_new : (old new : Forwarder X Y C R) (e : Course) (l : Link X Y C R) (d : World S T C) (m : link.Link S) (x : Stage) → ArrivesNew state stands_for old new e l → stage_of e ≡ x
-      → Under state stands_for key p t old e (record d { fresh = None }) → LinkStands state l m [] → Unsent x (Some m) → ForwarderStands state stands_for key p new (arrives (record d { fresh = Some m }) t x)
-  arrived_new old new e l d m x a is u s unsent =
-      subst (λ (y : Stage). ForwarderStands state stands_for key p new (arrives (record d { fresh = Some m }) t y)) is
-      (a key p t d m u s (subst (λ (y : Stage). Unsent y (Some m)) (sym is) unsent))
-
-  pub under_on : (w : Forwarder X Y C R) (c : Connection X Y C R) (e f : Course) (d v : World S T C) (x : Stage) → f ≡ goes e x → ConnectionStands state stands_for key p c (flow_of v) true true → Under state stands_for key p t w e d
-      → Under state stands_for key p t (record w { connection = c }) f v
-  under_on w c e f d v x is on u = record { connection = on; phase = u.phase; held = u.held; key_is = ap key_of is ∙ u.key_is; params_are = ap params_of is ∙ u.params_are }
+module _ {X Y C R S T : Type 0} (state : X → S) (stands_for : Y → T → Type 0) (key : ClientKey) (p : List Pair) (t : TransferKey) (e f : Course) where
+  -- at the next stage
+  pub advanced : (c : Connection X Y C R) (d v : World S T C) (y : Stage) → f ≡ goes e y → ConnectionStands state stands_for key p c (flow_of v) true true → key_of e ≡ t → params_of e ≡ p → Unsent y v.fresh → CanEnd (ended y) v.fresh
+      → moves_at d t p (stage_of e) ≡ arrives v t y → Advanced state stands_for key p t e f c d
+  advanced c d v y is on k q unsent can step =
+      subst (λ (g : Course). Advanced state stands_for key p t e g c d) (sym is) (record {
+        after = v;
+        under = record { connection = on; key_is = k; params_are = q; unsent = unsent };
+        can_end = can;
+        leads = step;
+      })
 
   -- the old pod's message is awaited, and hasn't come
-  pub waited_old : (b : Bool) (old new : Forwarder X Y C R) (c : Connection X Y C R) (e f : Course) (d : World S T C) → f ≡ (if b then goes e (cut_at Ended (stage_of e)) else e) → b ≡ d.link.cut → wants (stage_of e) ≡ want.AwaitOld
-      → None ≡ link.next_of_got d.link → d.mode ≡ Exchanging t (stage_of e) → ConnectionStands state stands_for key p c (flow_of d) true true → Under state stands_for key p t old e d
-      → Arrives state stands_for (record old { connection = c }) new f → ForwarderStands state stands_for key p new (moves_at d t p (stage_of e))
-  waited_old true old new c e f d is cut w none mode on u a =
+  pub waited_old : (b : Bool) (c : Connection X Y C R) (d : World S T C) → f ≡ (if b then goes e (cut_at Ended (stage_of e)) else e) → b ≡ d.link.cut → wants (stage_of e) ≡ want.AwaitOld
+      → None ≡ link.next_of_got d.link → d.mode ≡ Exchanging t (stage_of e) → ConnectionStands state stands_for key p c (flow_of d) true true → key_of e ≡ t → params_of e ≡ p
+      → Advanced state stands_for key p t e f c d
+  waited_old true c d is cut w none mode on k q =
       let x = stage_of e in
-      let end : cut_at Ended x ≡ at.Ended (outcome.OldCut Ended) = ap (λ (y : Want). cut_by Ended y x) w in
+      let end = at.Ended (outcome.OldCut Ended) in
       let step : moves_at d t p x ≡ comes_to d (outcome.OldCut Ended) = awaits_old_is d t p x w ∙ ap (λ o. awaits_old d t p x o) (sym none) ∙ ap (λ (b : Bool). if b then comes_to d (outcome.OldCut Ended) else d) (sym cut) in
-      subst (λ v. ForwarderStands state stands_for key p new v) (sym step)
-      (arrived (record old { connection = c }) new f d (at.Ended (outcome.OldCut Ended)) a (ap stage_of is ∙ end) (under_on old c e f d d (cut_at Ended x) is on u) refl (no_unsent (at.Ended (outcome.OldCut Ended)) d.fresh refl))
-  waited_old false old new c e f d is cut w none mode on u a =
+      advanced c d d end (is ∙ ap (λ (y : Want). goes e (cut_by Ended y x)) w) on k q (no_unsent end d.fresh refl) (can_old (ended end) d.fresh refl) step
+  waited_old false c d is cut w none mode on k q =
       let x = stage_of e in
       let waits = awaits_either x (inl w) in
       let step : moves_at d t p x ≡ d = awaits_old_is d t p x w ∙ ap (λ o. awaits_old d t p x o) (sym none) ∙ ap (λ (b : Bool). if b then comes_to d (outcome.OldCut Ended) else d) (sym cut) in
-      subst (λ v. ForwarderStands state stands_for key p new v) (waits_still d t x waits.on mode ∙ sym step)
-      (arrived (record old { connection = c }) new f d x a (ap stage_of is) (record { connection = on; phase = u.phase; held = u.held; key_is = ap key_of is ∙ u.key_is; params_are = ap params_of is ∙ u.params_are })
-      (ap is_old_end waits.on) (no_unsent x d.fresh waits.no_packet))
+      advanced c d d x is on k q (no_unsent x d.fresh waits.no_packet) (can_old (ended x) d.fresh (ap is_old_end waits.on)) (step ∙ sym (waits_still d t x waits.on mode))
+
+module _ {X Y C R S T : Type 0} (state : X → S) (p : List Pair) (t : TransferKey) (e f : Course) where
+  pub advanced_new : (l : Link X Y C R) (d : World S T C) (m : link.Link S) (y : Stage) → f ≡ goes e y → LinkStands state l m [] → key_of e ≡ t → params_of e ≡ p → is_packet y ≡ false
+      → moves_at d t p (stage_of e) ≡ arrives (record d { fresh = Some m }) t y → AdvancedNew state p t e f l d
+  advanced_new l d m y is on k q off step =
+      subst (λ (g : Course). AdvancedNew state p t e g l d) (sym is) (record { after = m; stands = on; key_is = k; params_are = q; unsent = no_unsent y (Some m) off; leads = step })
 
   -- the new pod's message is awaited, and hasn't come
-  pub waited_new : (b : Bool) (old new : Forwarder X Y C R) (e f : Course) (l : Link X Y C R) (d : World S T C) (m : link.Link S) → f ≡ (if b then goes e (cut_at Ended (stage_of e)) else e) → b ≡ m.cut → wants (stage_of e) ≡ want.AwaitNew
-      → None ≡ link.next_of_got m → d.fresh ≡ Some m → d.mode ≡ Exchanging t (stage_of e) → Under state stands_for key p t old e (record d { fresh = None }) → LinkStands state l m []
-      → ArrivesNew state stands_for old new f l → ForwarderStands state stands_for key p new (moves_at d t p (stage_of e))
-  waited_new true old new e f l d m is cut w none fresh mode u s a =
+  pub waited_new : (b : Bool) (l : Link X Y C R) (d : World S T C) (m : link.Link S) → f ≡ (if b then goes e (cut_at Ended (stage_of e)) else e) → b ≡ m.cut → wants (stage_of e) ≡ want.AwaitNew
+      → None ≡ link.next_of_got m → d.fresh ≡ Some m → d.mode ≡ Exchanging t (stage_of e) → LinkStands state l m [] → key_of e ≡ t → params_of e ≡ p
+      → AdvancedNew state p t e f l d
+  waited_new true l d m is cut w none fresh mode s k q =
       let x = stage_of e in
-      let end : cut_at Ended x ≡ at.Ended (outcome.NewCut Ended) = ap (λ (y : Want). cut_by Ended y x) w in
+      let end = at.Ended (outcome.NewCut Ended) in
       let step : moves_at d t p x ≡ fails d =
       awaits_new_is d t p x w ∙ ap (λ (o : Option (link.Link S)). awaits_new d t p x o) fresh ∙ ap (λ o. awaits_new_by d t p x m o) (sym none) ∙ ap (λ (b : Bool). if b then fails d else d) (sym cut) in
-      subst (λ v. ForwarderStands state stands_for key p new v) (sym step)
-      (arrived_new old new f l d m (at.Ended (outcome.NewCut Ended)) a (ap stage_of is ∙ end) (under_on old old.connection e f (record d { fresh = None }) (record d { fresh = None }) (cut_at Ended x) is u.connection u) s
-      (no_unsent (at.Ended (outcome.NewCut Ended)) (Some m) refl))
-  waited_new false old new e f l d m is cut w none fresh mode u s a =
+      advanced_new l d m end (is ∙ ap (λ (y : Want). goes e (cut_by Ended y x)) w) s k q refl step
+  waited_new false l d m is cut w none fresh mode s k q =
       let x = stage_of e in
       let waits = awaits_either x (inr w) in
       let step : moves_at d t p x ≡ d =
       awaits_new_is d t p x w ∙ ap (λ (o : Option (link.Link S)). awaits_new d t p x o) fresh ∙ ap (λ o. awaits_new_by d t p x m o) (sym none) ∙ ap (λ (b : Bool). if b then fails d else d) (sym cut) in
       let still : arrives (record d { fresh = Some m }) t x ≡ d = waits_still (record d { fresh = Some m }) t x waits.on mode ∙ ap (λ (o : Option (link.Link S)). record d { fresh = o }) (sym fresh) in
-      subst (λ v. ForwarderStands state stands_for key p new v) (still ∙ sym step)
-      (arrived_new old new f l d m x a (ap stage_of is) (record { connection = u.connection; phase = u.phase; held = u.held; key_is = ap key_of is ∙ u.key_is; params_are = ap params_of is ∙ u.params_are }) s
-      (no_unsent x (Some m) waits.no_packet))
+      advanced_new l d m x is s k q waits.no_packet (step ∙ sym still)
 
 -- ---- the parameters of a transfer
 
@@ -409,16 +409,6 @@ other_name q h = by (not (length q.name == 0)) (bytes_eq q.name (codes "crdb:ses
     by true true c d e = absurd cc
     by false false c d e = refl
     by false true c d e = absurd cc
-
--- the end is the same, whatever the new link was
-pub ends_alike : {X Y C R S T : Type 0} (state : X → S) (stands_for : Y → T → Type 0) (key : ClientKey) (p : List Pair) (w : Forwarder X Y C R) (d : World S T C) (m n : Option (link.Link S)) (o : Outcome) → is_old_end (Some o) ≡ true
-    → ForwarderStands state stands_for key p w (comes_to (record d { fresh = m }) o) → ForwarderStands state stands_for key p w (comes_to (record d { fresh = n }) o)
-ends_alike state stands_for key p w d m n (outcome.Moved key_) e h = absurd cc
-ends_alike state stands_for key p w d m n (outcome.Refused reason) e h = h
-ends_alike state stands_for key p w d m n (outcome.RevivalRefused f) e h = h
-ends_alike state stands_for key p w d m n outcome.DialFault e h = h
-ends_alike state stands_for key p w d m n (outcome.NewCut k) e h = h
-ends_alike state stands_for key p w d m n (outcome.OldCut k) e h = (record { counts = h.0.counts; received = h.0.received }, h.1)
 
 pub no_token : (p : List Pair) → AllByRecursion (λ q. is_plain q ≡ true) p → value_of (codes "crdb:session_revival_token_base64") p ≡ None
 no_token [] h = refl

@@ -7,7 +7,8 @@ use Rattle.pgw_messages.specs.declared.params.Pair.{Pair}
 use Rattle.session_model.specs.Kind.{Kind}
 use Rattle.forwarder_world.specs.World.{World, happens, run}
 use Rattle.forwarder_world.specs.declared.event.Event.{Event}
-use Rattle.forwarder_world.proofs.Turning.{begins_safely, resumes, ends_by}
+use Rattle.forwarder_world.proofs.Turning.{begins_safely, resumes}
+use Rattle.forwarder_world.proofs.Ending.{ends_by_move, ends_there}
 use Rattle.forwarder_core.specs.Hears.{Turns}
 
 module _ {S T C R : Type 0} (k : Kind S C R) (rules : Rules T C R) (key : ClientKey) (p : List Pair) where
@@ -22,4 +23,4 @@ module _ {S T C R : Type 0} (k : Kind S C R) (rules : Rules T C R) (key : Client
       ∙ ap (λ (x : Event C). happens k rules key p (run k rules key p w (take i es)) x) (sym is)
 
   pub turns_of : (w : World S T C) (e : Event C) → Turns k rules key p w e
-  turns_of w e = record { begins = begins_safely k rules key p w e; resumes = (λ t. resumes k rules key p w t); ends = (λ o. ends_by w o) }
+  turns_of w e = record { begins = begins_safely k rules key p w e; resumes = (λ t. resumes k rules key p w t); ends = ends_by_move k rules key p w e; ends_there = ends_there k rules key p w }

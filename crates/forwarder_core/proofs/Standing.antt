@@ -46,7 +46,7 @@ module _ {S : Type 0} (e : Option Course) (p : List Pair) (fr more : Option (lin
   pub transfer_on : (m : Mode) → ((x : Stage) → Unsent x fr → Unsent x more) → TransferIn e p m fr → TransferIn e p m more
   transfer_on Running on h = h
   transfer_on (Stop parked held) on h = h
-  transfer_on (Exchanging t x) on h = record { exchange = h.exchange; is = h.is; key_is = h.key_is; params_are = h.params_are; stage_is = h.stage_is; unsent = on x h.unsent }
+  transfer_on (Exchanging t x) on h = record { exchange = h.exchange; is = h.is; key_is = h.key_is; params_are = h.params_are; stage_is = h.stage_is; not_ended = h.not_ended; unsent = on x h.unsent }
   transfer_on (Closed c) on h = h
 
   pub no_transfer_unparked : (m : Mode) → is_parked m ≡ false → TransferIn e p m fr → TransferIn e p m more

@@ -20,6 +20,7 @@ pub record Flow (S T : Type 0) : Type 0 where
   pub whole : Bool
   pub read : ℕ
   pub forwarded : List Frame
+  pub written : ℕ
   pub passed : List Frame
   pub link : model.Link S
   pub fresh : Option (model.Link S)
@@ -35,6 +36,7 @@ flow_of d = record {
   whole = d.whole;
   read = d.read;
   forwarded = d.forwarded;
+  written = d.written;
   passed = d.passed;
   link = d.link;
   fresh = d.fresh;
@@ -50,7 +52,7 @@ counts_in fl = record {
   moves = counted fl.moves;
   failed = counted fl.failed;
   taken = counted fl.read;
-  forwarded = counted (length fl.forwarded);
+  forwarded = counted fl.written;
   passed = counted (length fl.passed);
 }
 

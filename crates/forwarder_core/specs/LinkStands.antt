@@ -7,6 +7,7 @@ use Rattle.session_model.specs.Kind.{Kind}
 use Rattle.session_model.specs.Solo.{store_after}
 use Rattle.processor_core.specs.Streams.{Cuts}
 use Rattle.forwarder_world.specs.Link as model
+pub use Rattle.forwarder_world.specs.Link.{taken_by}
 use Rattle.forwarder_core.specs.Carries.{Carries}
 use Rattle.forwarder_core.specs.declared.channel.Channel.{Channel}
 use Rattle.forwarder_core.specs.declared.link.Link.{Link}
@@ -60,11 +61,6 @@ opens_or_hears k rules p m t (Some s) = listens k rules m t (Some s) (model.next
 -- the same of a pod that may be cut off
 abbrev pub turn : {S T C R : Type 0} → Kind S C R → Rules T C R → List Pair → model.Link S → T → model.Link S × T
 turn k rules p m t = if m.cut then (m, t) else opens_or_hears k rules p m t m.session
-
--- a message was read, where one stands whole
-abbrev pub taken_by : {S : Type 0} → model.Link S → Option Frame → model.Link S
-taken_by m None = m
-taken_by m (Some f) = model.takes m f
 
 -- the link to a new pod, where there is one; all that was read of it was handed out
 abbrev pub FreshStands : {X Y C R S : Type 0} → (X → S) → Option (Link X Y C R) → Option (model.Link S) → Type 0

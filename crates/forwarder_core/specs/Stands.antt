@@ -4,6 +4,7 @@ use Rattle.proxy_outside.specs.declared.identity.ClientKey.{ClientKey}
 use Rattle.pgw_messages.specs.declared.params.Pair.{Pair}
 use Rattle.session_model.specs.declared.transfer.TransferKey.{TransferKey}
 use Rattle.transfer_stages.specs.declared.stage.Stage.{Stage}
+use Rattle.transfer_stages.specs.Exchange.{ended}
 use Rattle.transfer_exchange.specs.Course.{Course, key_of, params_of, stage_of, is_packet}
 use Rattle.forwarder_world.specs.Link as link
 use Rattle.forwarder_world.specs.World as model
@@ -68,6 +69,7 @@ pub record TransferIs {S : Type 0} (e : Option Course) (p : List Pair) (key : Tr
   pub key_is : key_of exchange ≡ key
   pub params_are : params_of exchange ≡ p
   pub stage_is : stage_of exchange ≡ x
+  pub not_ended : ended x ≡ None
   pub unsent : Unsent x fresh
 
 abbrev pub TransferIn : {S : Type 0} → Option Course → List Pair → Mode → Option (link.Link S) → Type 0
@@ -107,3 +109,8 @@ is_given_up w = w.given_up
 
 abbrev pub received_of : {X Y C R : Type 0} → World X Y C R → List ℕ
 received_of w = w.forwarder.connection.received
+
+-- it was given up, and has received what the old one had
+pub record IsGivenUpAs {X Y C R : Type 0} (old new : World X Y C R) : Type 0 where
+  pub given_up : is_given_up new ≡ true
+  pub received : received_of new ≡ received_of old

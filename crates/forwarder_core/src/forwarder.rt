@@ -1,13 +1,14 @@
 //! Where a connection stands, and what each event does to it.
 
-ghost use Rattle.std.specs.Prelude.{List, ◌≡◌, ◌&&◌, Bool, true, false, IfOk, OnOk, OnErr};
-ghost use Rattle.forwarder_world.specs.World.{Mode, Running, phase_of, forwarding, is_closed as is_closed_mode};
-ghost use Rattle.forwarder_core.specs.Stands.{closed_by, is_held, runs_on, may_park, may_hold};
+ghost use Rattle.std.specs.Prelude.{List, ◌≡◌, ◌&&◌, Bool, false, None, IfOk, OnOk, OnErr};
+ghost use Rattle.forwarder_world.specs.World.{Running, is_closed as is_closed_mode};
+ghost use Rattle.forwarder_core.specs.Stands.{is_held, runs_on, may_hold};
 ghost use Rattle.pgw_messages.specs.declared.params.Pair.{Pair};
 ghost use Rattle.proxy_outside.specs.declared.identity.ClientKey.{ClientKey as Key};
 
 use crate::connection::Connection;
-use forwarder_world::{Close, Counts, Event, Phase};
+use crate::phases::{close, enter, is_closed, is_forwarding, is_parked, is_running, is_stopping};
+use forwarder_world::{Counts, Event, Phase};
 use pgw_frames::NoMemory;
 use pgw_messages::Params;
 use proxy_outside::{ClientKey, Machine};
@@ -24,86 +25,6 @@ pub(crate) struct Forwarder<S: Session> {
     /// The transfer that is under way.
     pub(crate) exchange: Option<Exchange>,
     pub(crate) connection: Connection<S>,
-}
-
-/// The connection is closed, where there is a reason.
-fn close(phase: &mut Phase, why: Option<Close>)
-    ensures { phase.new ≡ closed_by why phase.old }
-{
-    if let Some(why) = why {
-        *phase = Phase::Closed(why);
-    }
-}
-
-/// Whether the request side goes on.
-fn is_forwarding(phase: &Phase) -> bool
-    ensures { (m : Mode) → phase.now ≡ phase_of m → result ≡ forwarding m }
-{
-    match phase {
-        Phase::Running => true,
-        Phase::Stop => true,
-        Phase::Parked => false,
-        Phase::Exchange => false,
-        Phase::Closed(_) => false,
-    }
-}
-
-fn is_closed(phase: &Phase) -> bool
-    ensures { (m : Mode) → phase.now ≡ phase_of m → result ≡ is_closed_mode m }
-{
-    match phase {
-        Phase::Running => false,
-        Phase::Stop => false,
-        Phase::Parked => false,
-        Phase::Exchange => false,
-        Phase::Closed(_) => true,
-    }
-}
-
-/// Whether nothing asked it to stop.
-fn is_running(phase: &Phase) -> bool
-    ensures { (m : Mode) → phase.now ≡ phase_of m → result ≡ runs_on m }
-{
-    match phase {
-        Phase::Running => true,
-        Phase::Stop => false,
-        Phase::Parked => false,
-        Phase::Exchange => false,
-        Phase::Closed(_) => false,
-    }
-}
-
-/// Whether it is to stop, with the request side not suspended yet.
-fn is_stopping(phase: &Phase) -> bool
-    ensures { (m : Mode) → phase.now ≡ phase_of m → result ≡ may_park m }
-{
-    match phase {
-        Phase::Running => false,
-        Phase::Stop => true,
-        Phase::Parked => false,
-        Phase::Exchange => false,
-        Phase::Closed(_) => false,
-    }
-}
-
-/// Whether it is to stop, with the request side suspended.
-fn is_parked(phase: &Phase) -> bool
-    ensures { (m : Mode) → phase.now ≡ phase_of m → result ≡ may_hold m }
-{
-    match phase {
-        Phase::Running => false,
-        Phase::Stop => false,
-        Phase::Parked => true,
-        Phase::Exchange => false,
-        Phase::Closed(_) => false,
-    }
-}
-
-/// Leaves this phase for another one.
-pub(crate) fn enter(phase: &mut Phase, next: Phase)
-    ensures { phase.new ≡ next }
-{
-    *phase = next;
 }
 
 impl<S: Session> Forwarder<S> {
@@ -229,13 +150,12 @@ impl<S: Session> Forwarder<S> {
 
     /// Both sides go on.
     pub(crate) fn go_on(&mut self)
-        ensures stands { (key : Key) (p : List Pair) (d : model S.State S.Store.State S.Store.Command) (parked held : Bool) → ConnectionStands S.state S.Store.stands_for key p self.old.connection (flow_of d) parked held
+        ensures stands { (key : Key) (p : List Pair) (d : model S.State S.Store.State S.Store.Command) (parked held : Bool) → self.old.exchange ≡ None → ConnectionStands S.state S.Store.stands_for key p self.old.connection (flow_of d) parked held
             → ForwarderStands S.state S.Store.stands_for key p self.new (record d { mode = Running }) }
         ensures kept { self.new.connection.received ≡ self.old.connection.received }
     {
         self.connection.resume();
         self.held = false;
-        self.exchange = None;
         enter(&mut self.phase, Phase::Running);
     }
 

@@ -6,13 +6,18 @@
 #![tactic(auto)]
 
 mod channel;
+mod client_side;
 mod connection;
 mod forwarder;
 mod link;
+mod new_link;
 mod opening;
+mod outcome;
+mod phases;
+mod pod_side;
 mod replies;
 mod shown;
-mod transferring;
+mod transfer;
 mod world;
 
 pub use forwarder_world::{Close, Counts, Event, Phase};

@@ -1,6 +1,6 @@
 //! A World: one session, its client and its pod, over any schedule.
 
-ghost use Rattle.std.specs.Prelude.{List, ℕ, ◌≡◌, ◌≤◌, take, length, IsTrue, IsErr, IfOk, OnOk, OnErr};
+ghost use Rattle.std.specs.Prelude.{List, ℕ, ◌≡◌, ◌<◌, take, length, IsTrue, IsErr, IfOk, OnOk, OnErr};
 ghost use Rattle.pgw_messages.specs.Startup.{Fits};
 ghost use Rattle.pgw_messages.specs.declared.params.Pair.{Pair};
 ghost use Rattle.proxy_outside.specs.declared.identity.ClientKey.{ClientKey as Key};
@@ -26,7 +26,7 @@ pub struct World<S: Session> {
 
 impl<S: Session> World<S> {
     ghost use Rattle.forwarder_core.specs.Starting.{CanStart};
-    ghost use Rattle.forwarder_core.specs.Stands.{WorldStands, is_given_up, received_of};
+    ghost use Rattle.forwarder_core.specs.Stands.{WorldStands, IsGivenUpAs, is_given_up, received_of};
     ghost use Rattle.forwarder_core.specs.Hears.{Hears, Turns};
 
     /// A World whose pod has taken the startup packet and greets, and whose client has given and
@@ -59,11 +59,14 @@ impl<S: Session> World<S> {
     }
 
     /// A whole schedule. After an `Err` what was received is that of the events before the one that
-    /// found no memory.
+    /// found no memory. A World that was given up takes no event, and keeps what it received.
     pub fn run(&mut self, es: &[Event<<S::Store as Machine>::Command>]) -> Result<(), NoMemory>
         ensures stands { OnOk result ((key : Key) (p : List Pair) (d : model S.State S.Store.State S.Store.Command) → WorldStands S.state S.Store.stands_for key p self.old d → WorldStands S.state S.Store.stands_for key p self.new (run S.kind S.Store.rules key p d es.now)) }
         ensures err { OnErr result (IsTrue (is_given_up self.new)) }
         ensures kept { OnErr result ((key : Key) (p : List Pair) (d : model S.State S.Store.State S.Store.Command) → WorldStands S.state S.Store.stands_for key p self.old d → (n : ℕ) × (received_of self.new ≡ (run S.kind S.Store.rules key p d (take n es.now)).received)) }
+        ensures turns { (key : Key) (p : List Pair) (d : model S.State S.Store.State S.Store.Command) (n : ℕ) (e : Happening S.Store.Command) → Turns S.kind S.Store.rules key p (run S.kind S.Store.rules key p d (take n es.now)) e }
+        ensures given_up { IsTrue (is_given_up self.old) → 0 < length es.now → IsErr result }
+        ensures kept_given_up { IsTrue (is_given_up self.old) → IsGivenUpAs self.old self.new }
     {
         for e in es {
             self.step(e)?;

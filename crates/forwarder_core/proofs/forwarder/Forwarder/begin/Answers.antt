@@ -15,7 +15,7 @@ returns-then-not-is_safe-clause-stands g c key p d alive st =
     let s = begin_is d c.args.key.now d.mode (sym (c.may_begin.ensures key p d alive st) ∙ c.if-not-may_begin.false) in
     let n = subst (λ m. GoesOn g.S.Session.state g.S.Store.Machine.stands_for key p c.args.self.now d m) s.0 h in
     let off = sym (c.is_safe.ensures key p d true n.connection) ∙ c.if-not-is_safe.true in
-    rw (s.1 ∙ ap (λ b. record d { mode = if b then Exchanging c.args.key.now at.AskOld else Running }) off) (c.go_on.ensures.stands key p d true true n.connection)
+    rw (s.1 ∙ ap (λ b. record d { mode = if b then Exchanging c.args.key.now at.AskOld else Running }) off) (c.go_on.ensures.stands key p d true true n.transfer n.connection)
 
 pub returns-clause-stands : goal.returns-clause-stands
 returns-clause-stands g c key p d alive st =
@@ -28,5 +28,5 @@ returns-clause-stands g c key p d alive st =
       connection = n.connection;
       phase = c.enter.ensures;
       held = n.held;
-      transfer = record { exchange = c.in_ok-exchange.exchange; is = refl; key_is = e.0; params_are = e.1 ∙ n.connection.params; stage_is = e.2; unsent = (λ packet m is. absurd cc) };
+      transfer = record { exchange = c.in_ok-exchange.exchange; is = refl; key_is = e.0; params_are = e.1 ∙ n.connection.params; stage_is = e.2; not_ended = refl; unsent = (λ packet m is. absurd cc) };
     })
