@@ -4,7 +4,7 @@
 usage: bench/generated.py [NUMBER] [RUNS]
 
 Writes the schedules of a number (1) as text, by a generator of its own, checks that a run over such a text
-ends as `gen` says it does, and prints the median processor times with their ratio, the most memory, and what
+ends as `gen` says it does and as a reckoning without any transfer says, and prints the median processor times with their ratio, the most memory, and what
 twice the messages cost.
 """
 import hashlib
@@ -69,6 +69,41 @@ def turn(at, words):
     return [dialed + REST, dialed + REST, "nodial\n" + dialed, dialed + NEW_CUT][second % 4]
 
 
+def replies_to(kind, tally):
+    """What a tally session replies to the messages of a turn, the tally being what it comes to."""
+    ready = frame(b"Z", b"I")
+    if kind < 5:
+        return [frame(b"C", b"TALLY %d\0" % tally), ready]
+    return [ready] if kind == 5 else [frame(b"G", b"\0\0\0"), frame(b"C", b"COPY 1\0"), ready]
+
+
+def reckoned(number, messages):
+    """The summary of a schedule that is played by nobody: what the client hears is what one session says."""
+    words = Pcg32(number)
+    key = (1).to_bytes(4, "big") + (16909060).to_bytes(4, "big")
+    heard = [frame(b"R", b"\0\0\0\0"), frame(b"K", key), frame(b"Z", b"I")]
+    events, tally, moves, failed, forwarded, no_dial = OPENING.count("\n"), 0, 0, 0, 0, False
+    for at in range(messages):
+        ahead = Pcg32(0)
+        ahead.state, kind, second = words.state, words.word() % 8, words.word()
+        events += "".join(turn(at, ahead)).count("\n")
+        words.state = ahead.state
+        if kind < 7:
+            tally += kind < 5
+            heard += replies_to(kind, tally)
+            forwarded += 3 if kind == 6 else 1
+            continue
+        no_dial = no_dial or second % 4 == 2
+        if forwarded:
+            fails = no_dial or second % 4 == 3
+            moves, failed, no_dial = moves + (not fails), failed + fails, False
+    received = b"".join(heard)
+    return {
+        "events": events, "moves": moves, "failed": failed, "forwarded": forwarded, "passed": len(heard),
+        "received": len(received), "sha256": hashlib.sha256(received).hexdigest(),
+    }
+
+
 def write_schedule(path, number, messages):
     words = Pcg32(number)
     with open(path, "w") as out:
@@ -93,6 +128,9 @@ def check(path, number, messages):
     with open(path) as schedule:
         counts["events"] = str(sum(1 for _ in schedule))
     counts["sha256"] = hashlib.sha256(received).hexdigest()
+    for name, count in reckoned(number, messages).items():
+        if summary[name] != str(count):
+            sys.exit(f"{messages} messages: {name} is {summary[name]} by gen, {count} by reckoning")
     for name in ("events", "phase", "moves", "failed", "forwarded", "passed", "received", "sha256"):
         if summary[name] != counts[name]:
             sys.exit(f"{messages} messages: {name} is {summary[name]} by gen, {counts[name]} by run")

@@ -1,18 +1,16 @@
 -- How a replay ends, and its headline.
-use Rattle.std.proofs.Common.{◌≡◌, ◌≢◌, ℕ, List, inl, inr, ◌⊎◌, refl}
+use Rattle.std.proofs.Common.{◌≡◌, ◌≢◌, ℕ, List, take, inl, inr, ◌⊎◌, refl}
 use Rattle.proxy_outside.specs.Reading.{Rose}
 use Rattle.proxy_outside.specs.Writing.{Target}
-use Rattle.forwarder_world.specs.Headline.{Headline}
 use Rattle.forwarder_world.specs.declared.event.Event.{Event}
 use Rattle.forwarder_world.proofs.Runs.{headline_holds}
-use Rattle.forwarder_core.specs.Hears.{Turns}
 use Rattle.forwarder_core.proofs.Schedules.{turns_of}
 use Rattle.tally_session.specs.Keeps.{keeps_laws}
-use Rattle.tally_session.specs.Tally.{tally_kind, tally_rules, TallyKept}
+use Rattle.tally_session.specs.Tally.{tally_kind, tally_rules, StateKept}
 use Rattle.tally_session.specs.declared.store.Nothing.{Nothing}
 use Rattle.tally_session.specs.declared.store.Nothing.TheVariants as nothing
 use Rattle.proxy_replay.specs.Client.{client_params, client_key}
-use Rattle.proxy_replay.specs.Generating.{world_of}
+use Rattle.proxy_replay.specs.Generating.{world_of, IsKnown}
 use Rattle.proxy_replay.specs.Replaying.{RunCase}
 use Rattle.proxy_replay.specs.TallyCommands.{says_nothing}
 use Rattle.proxy_replay.specs.Schedule.{IsSchedule}
@@ -21,11 +19,11 @@ use Rattle.proxy_replay.specs.declared.status.Status.TheVariants.{Done, Usage, B
 use Rattle.proxy_replay.proofs.OneReading.{SaysOne, never_both}
 use Rattle.proxy_replay.proofs.Starting.{client_fits}
 
-pub headline_of_replay : (es : List (Event Nothing)) → Headline tally_kind tally_rules client_key client_params (world_of es)
-headline_of_replay es = headline_holds tally_kind tally_rules TallyKept keeps_laws client_key client_params client_fits es
-
-pub turns_of_replay : (es : List (Event Nothing)) (e : Event Nothing) → Turns tally_kind tally_rules client_key client_params (world_of es) e
-turns_of_replay es e = turns_of tally_kind tally_rules client_key client_params (world_of es) e
+pub known : (es : List (Event Nothing)) → IsKnown es
+known es = record {
+  headline = headline_holds tally_kind tally_rules StateKept keeps_laws client_key client_params client_fits es;
+  turns = λ n e. turns_of tally_kind tally_rules client_key client_params (world_of (take n es)) e;
+}
 
 -- the store has one command
 pub one_command : SaysOne says_nothing

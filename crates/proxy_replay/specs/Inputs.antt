@@ -15,9 +15,9 @@ RoseBy n before now = min (before + n) (2 ^ 64 - 1) ≤ now
 -- why reading ended, where these bytes were taken
 abbrev pub ReadingCase : Input → Origin → Origin → List ℕ → Type 0
 ReadingCase (All b) old new bytes = (b ≡ bytes) × IsTrue new.ended × (length bytes ≤ most_bytes)
-ReadingCase ReadFault old new bytes = Rose old.faults new.faults × (length bytes ≤ most_bytes)
+ReadingCase ReadFault old new bytes = Rose old.faults new.faults × (length bytes ≤ most_bytes) × (¬ IsTrue new.ended)
 ReadingCase TooLong old new bytes = most_bytes < length bytes
-ReadingCase (Late n) old new bytes = (n ≡ 1000) × RoseBy n old.waits new.waits × (length bytes ≤ most_bytes)
+ReadingCase (Late n) old new bytes = (n ≡ 1000) × RoseBy n old.waits new.waits × (length bytes ≤ most_bytes) × (¬ IsTrue new.ended)
 ReadingCase NoMemory old new bytes = length bytes ≤ most_bytes
 
 -- these bytes were taken, and that is why reading ended

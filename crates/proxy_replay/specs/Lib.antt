@@ -12,3 +12,4 @@ pub mod Playing
 pub mod Generating
 pub mod Generations
 pub mod Replaying
+pub mod Statuses

@@ -4,8 +4,9 @@ use Rattle.proxy_outside.specs.Reading.{Origin, Takes, Rose}
 use Rattle.proxy_outside.specs.Writing.{Target, Appends}
 use Rattle.forwarder_world.specs.World.{World, phase_of, counts_of}
 use Rattle.forwarder_world.specs.declared.event.Event.{Event}
+use Rattle.generated_run.specs.Generated.{generated}
 use Rattle.tally_session.specs.declared.store.Nothing.{Nothing}
-use Rattle.proxy_replay.specs.Generating.{world_of, summary_after}
+use Rattle.proxy_replay.specs.Generating.{world_of, summary_after, IsKnown}
 use Rattle.proxy_replay.specs.Generations.{IsGen, IsNoGen}
 use Rattle.proxy_replay.specs.TallyCommands.{says_nothing}
 use Rattle.proxy_replay.specs.Inputs.{most_bytes, RoseBy}
@@ -30,13 +31,13 @@ report_after es = report_by (world_of es)
 
 -- what a text is answered by
 abbrev pub IsAnsweredBy : List ℕ → Answer → Type 0
-IsAnsweredBy text (answer.Report bytes) = (es : List (Event Nothing)) × IsSchedule says_nothing text es × (bytes ≡ report_after es)
+IsAnsweredBy text (answer.Report bytes) = (es : List (Event Nothing)) × IsSchedule says_nothing text es × (bytes ≡ report_after es) × IsKnown es
 IsAnsweredBy text (answer.BadLine n) = IsFirstBad says_nothing text n
 
--- how answering a text to a sink may end
+-- how answering a text to a sink may end, and what is known of the world that is reported
 abbrev pub RunCase : List ℕ → Target → Target → Status → Type 0
-RunCase text old new Done = (es : List (Event Nothing)) × IsSchedule says_nothing text es × Appends old new (report_after es)
-RunCase text old new WriteFault = (es : List (Event Nothing)) × IsSchedule says_nothing text es × Writing false old new (report_after es)
+RunCase text old new Done = (es : List (Event Nothing)) × IsSchedule says_nothing text es × Appends old new (report_after es) × IsKnown es
+RunCase text old new WriteFault = (es : List (Event Nothing)) × IsSchedule says_nothing text es × Writing false old new (report_after es) × IsKnown es
 RunCase text old new (BadLine n) = IsFirstBad says_nothing text n × (new ≡ old)
 RunCase text old new NoMemory = new ≡ old
 RunCase text old new Usage = ⊥
@@ -46,8 +47,8 @@ RunCase text old new (Late n) = ⊥
 
 -- how a schedule made from a number may end
 abbrev pub GenCase : ℕ → ℕ → Target → Target → Status → Type 0
-GenCase number messages old new Done = Appends old new (summary_after number messages)
-GenCase number messages old new WriteFault = Writing false old new (summary_after number messages)
+GenCase number messages old new Done = Appends old new (summary_after number messages) × IsKnown (generated number messages)
+GenCase number messages old new WriteFault = Writing false old new (summary_after number messages) × IsKnown (generated number messages)
 GenCase number messages old new NoMemory = new ≡ old
 GenCase number messages old new Usage = ⊥
 GenCase number messages old new (BadLine n) = ⊥
@@ -66,9 +67,9 @@ ReplayCase old new sink_old sink_new text Done = IsRead new text × RunCase text
 ReplayCase old new sink_old sink_new text WriteFault = IsRead new text × RunCase text sink_old sink_new WriteFault
 ReplayCase old new sink_old sink_new text (BadLine n) = IsRead new text × RunCase text sink_old sink_new (BadLine n)
 ReplayCase old new sink_old sink_new text NoMemory = (length text ≤ most_bytes) × (sink_new ≡ sink_old)
-ReplayCase old new sink_old sink_new text ReadFault = Rose old.faults new.faults × (length text ≤ most_bytes) × (sink_new ≡ sink_old)
+ReplayCase old new sink_old sink_new text ReadFault = Rose old.faults new.faults × (length text ≤ most_bytes) × (¬ IsTrue new.ended) × (sink_new ≡ sink_old)
 ReplayCase old new sink_old sink_new text TooLong = (most_bytes < length text) × (sink_new ≡ sink_old)
-ReplayCase old new sink_old sink_new text (Late n) = (n ≡ 1000) × RoseBy n old.waits new.waits × (length text ≤ most_bytes) × (sink_new ≡ sink_old)
+ReplayCase old new sink_old sink_new text (Late n) = (n ≡ 1000) × RoseBy n old.waits new.waits × (length text ≤ most_bytes) × (¬ IsTrue new.ended) × (sink_new ≡ sink_old)
 
 -- this text was taken from the source, and that is why the replay ended
 abbrev pub ReplaysText : Origin → Origin → Target → Target → Status → Type 0

@@ -1,7 +1,7 @@
 //! A schedule that is made from a number, and played turn by turn.
 
-ghost use Rattle.std.specs.Prelude.{◌≡◌, ◌≤◌, ◌+◌, ◌*◌, ℕ, IfOk, OnOk};
-ghost use Rattle.proxy_replay.specs.Generating.{HasBegun, IsPlayedTo, IsPlayed, summary_after};
+ghost use Rattle.std.specs.Prelude.{◌≤◌, ◌+◌, ◌*◌, ℕ, IfOk, OnOk};
+ghost use Rattle.proxy_replay.specs.Generating.{HasBegun, IsPlayedTo, IsPlayed, IsSummary};
 
 use crate::client;
 use crate::generation::Generation;
@@ -66,7 +66,7 @@ fn summary_of(
     world: &mut World<TallySession>,
     g: &Generation,
 ) -> Result<Bytes, NoMemory>
-    ensures { IfOk result (λ b. HasBegun world.old → b ≡ summary_after g.now.number g.now.messages) }
+    ensures { IfOk result (λ b. HasBegun world.old → IsSummary g.now.number g.now.messages b) }
 {
     let events = play(alloc, world, g)?;
     let summary = Summary {
@@ -82,7 +82,7 @@ fn summary_of(
 
 /// The summary of the schedule.
 pub(crate) fn summary(alloc: Global, g: &Generation) -> Result<Bytes, NoMemory>
-    ensures { IfOk result (λ b. b ≡ summary_after g.now.number g.now.messages) }
+    ensures { IfOk result (IsSummary g.now.number g.now.messages) }
 {
     let params = client::params(alloc)?;
     let mut world = World::start(alloc, params, client::key())?;

@@ -33,7 +33,7 @@ pub use line::event_of;
 pub use lines::Lines;
 pub use output::write_all;
 pub use report::report_of;
-pub use status::Status;
+pub use status::{Status, code_of};
 pub use top::replay;
 
 #[cfg(test)]

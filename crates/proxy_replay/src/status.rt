@@ -1,5 +1,8 @@
 //! How a replay ended.
 
+ghost use Rattle.std.specs.Prelude.{◌≡◌};
+ghost use Rattle.proxy_replay.specs.Statuses.{exit_status};
+
 /// The answers of a replay.
 #[derive(Clone, Copy, Debug, PartialEq, Eq)]
 pub enum Status {
@@ -19,4 +22,21 @@ pub enum Status {
     TooLong,
     /// So many reads were idle before the schedule's end. Nothing was written.
     Late(u64),
+}
+
+/// The exit status of the program whose replay ended so. 1 is none: a program that is stopped or can't
+/// begin may end with it.
+pub fn code_of(status: Status) -> u8
+    ensures { result ≡ exit_status status }
+{
+    match status {
+        Status::Done => 0,
+        Status::Usage => 2,
+        Status::BadLine(_) => 3,
+        Status::ReadFault => 4,
+        Status::WriteFault => 5,
+        Status::NoMemory => 6,
+        Status::TooLong => 7,
+        Status::Late(_) => 8,
+    }
 }

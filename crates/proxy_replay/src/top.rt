@@ -1,17 +1,11 @@
 //! The top call: a schedule in, a report out.
 
 ghost use Rattle.std.specs.Prelude.{◌≡◌, ◌≢◌, ◌↔◌, ◌≤◌, List, length, IfOk};
-ghost use Rattle.forwarder_world.specs.Headline.{Headline};
-ghost use Rattle.forwarder_world.specs.declared.event.Event.{Event as Happening};
 ghost use Rattle.proxy_outside.specs.declared.identity.ClientKey.{ClientKey as Key};
 ghost use Rattle.forwarder_world.specs.World.{World as model};
 ghost use Rattle.pgw_messages.specs.declared.params.Pair.{Pair};
-ghost use Rattle.forwarder_core.specs.Hears.{Turns};
 ghost use Rattle.forwarder_core.specs.Stands.{WorldStands};
-ghost use Rattle.tally_session.specs.Tally.{tally_kind, tally_rules};
-ghost use Rattle.tally_session.specs.declared.store.Nothing.{Nothing};
-ghost use Rattle.proxy_replay.specs.Client.{client_params, client_key};
-ghost use Rattle.proxy_replay.specs.Generating.{world_of, HasBegun};
+ghost use Rattle.proxy_replay.specs.Generating.{HasBegun};
 ghost use Rattle.proxy_replay.specs.Generations.{IsNoGen};
 ghost use Rattle.proxy_replay.specs.Inputs.{most_bytes};
 ghost use Rattle.proxy_replay.specs.Replaying.{report_by, IsRun, IsAnsweredBy, RunCase, GenCase, ReplaysText, CompletesText, Replays, Completes, CompletesGenerated};
@@ -124,7 +118,7 @@ fn replay_text<S: Source, K: Sink>(alloc: Global, schedule: &mut S, report: &mut
 }
 
 /// Reads a schedule to its end, and writes the report of its World: the words are `run`
-/// or `run tally`. With `gen`, a number below 2^64 and a count from 1 to 100,000 it reads nothing, and
+/// or `run tally`. Of the World that is reported the answer says the headline. With `gen`, a number below 2^64 and a count from 1 to 100,000 it reads nothing, and
 /// writes the summary of the World after the schedule of that number with so many messages.
 pub fn replay<S: Source, K: Sink>(
     alloc: Global,
@@ -136,8 +130,6 @@ pub fn replay<S: Source, K: Sink>(
     ensures usage { (result ≡ Status.Usage) ↔ ((¬ IsRun words.now) × IsNoGen words.now) }
     ensures complete { Completes words.now (S.origin schedule.old) (S.origin schedule.new) (K.target report.old) (K.target report.new) result }
     ensures complete_generated { CompletesGenerated words.now (K.target report.old) (K.target report.new) result }
-    ensures headline { (es : List (Happening Nothing)) → Headline tally_kind tally_rules client_key client_params (world_of es) }
-    ensures turns { (es : List (Happening Nothing)) (e : Happening Nothing) → Turns tally_kind tally_rules client_key client_params (world_of es) e }
 {
     if let Some(g) = generation_of(words) {
         return generate(alloc, &g, report);

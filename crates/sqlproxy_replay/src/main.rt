@@ -1,12 +1,12 @@
 //! `sqlproxy-replay`: a written schedule on standard input, the report of its World on standard output.
 //!
-//! Everything that matters stands in `proxy_replay`. Here are the words, the streams, the exit status
-//! and the one line on standard error.
+//! Everything that matters stands in `proxy_replay`. Here are the words, the streams, and the one line
+//! on standard error.
 #![tactic(auto)]
 
 use pgw_frames::{NoMemory, Text};
 use proxy_outside::{ReaderSource, WriterSink};
-use proxy_replay::{Status, replay};
+use proxy_replay::{Status, code_of, replay};
 use std::alloc::Global;
 use std::env;
 use std::io::ErrorKind;
@@ -40,20 +40,6 @@ fn run(rt: &HostRuntime, alloc: Global) -> Result<Status, NoMemory> {
     let mut schedule = ReaderSource::make(alloc, rt.stdin(), ROOM)?;
     let mut report = WriterSink::new(rt.stdout());
     Ok(replay(alloc, words.as_slice(), &mut schedule, &mut report))
-}
-
-/// The exit status.
-fn code_of(status: Status) -> u8 {
-    match status {
-        Status::Done => 0,
-        Status::Usage => 2,
-        Status::BadLine(_) => 3,
-        Status::ReadFault => 4,
-        Status::WriteFault => 5,
-        Status::NoMemory => 6,
-        Status::TooLong => 7,
-        Status::Late(_) => 8,
-    }
 }
 
 /// Says on standard error why there is no report. Whether that can be written changes nothing.

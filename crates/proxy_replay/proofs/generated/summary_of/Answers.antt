@@ -2,8 +2,9 @@ use Rattle.std.proofs.Common.{◌≡◌, List, ℕ, length, subst}
 use Rattle.std.specs.Prelude.{IfOk}
 use Rattle.generated_run.specs.Generated.{generated}
 use Rattle.proxy_replay.specs.Client.{client_key, client_params}
-use Rattle.proxy_replay.specs.Generating.{world_of, HasBegun}
-use Rattle.proxy_replay.proofs.Common.{if_ok_under}
+use Rattle.proxy_replay.specs.Generating.{world_of, summary_after, HasBegun, IsKnown}
+use Rattle.proxy_replay.proofs.Common.{if_ok_under, if_ok_with}
+use Rattle.proxy_replay.proofs.Ends.{known}
 use Rattle.proxy_replay.proofs.Turns.{told}
 use Rattle.proxy_replay.proofs.generated.summary_of.Goals as goal
 
@@ -16,4 +17,4 @@ returns c =
     let played = c.in_ok-events.ensures begun in
     let same = told number messages c.in_ok-events.events c.phase.result.now c.counts.result c.received.result.now (length (generated number messages)) w played.events
     (c.phase.ensures client_key client_params w played.world) (c.counts.ensures client_key client_params w played.world) (c.received.ensures.stands client_key client_params w played.world) in
-    subst (λ (t : List ℕ). IfOk c.text.result (λ b. b ≡ t)) same c.text.ensures)
+    if_ok_with c.text.result (λ b. b ≡ summary_after number messages) (IsKnown (generated number messages)) (known (generated number messages)) (subst (λ (t : List ℕ). IfOk c.text.result (λ b. b ≡ t)) same c.text.ensures))

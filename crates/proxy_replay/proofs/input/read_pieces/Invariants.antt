@@ -1,4 +1,4 @@
-use Rattle.std.proofs.Common.{◌≤◌, ◌-◌, ◌+◌, length}
+use Rattle.std.proofs.Common.{◌≤◌, ◌<◌, IsTrue, ◌-◌, ◌+◌, length}
 use Rattle.proxy_outside.specs.Reading.{Takes}
 use Rattle.proxy_replay.specs.Inputs.{RoseBy, most_bytes}
 use Rattle.proxy_replay.proofs.input.read_pieces.Given as goal
@@ -9,6 +9,7 @@ invariant-pieces g l = record {
   waited : RoseBy l.waits (g.S.Source.origin l.fn.source).waits (g.S.Source.origin l.source).waits;
   faults : (g.S.Source.origin l.fn.source).faults ≤ (g.S.Source.origin l.source).faults;
   few : l.waits ≤ 1000;
+  unended : 0 < l.waits → IsTrue (g.S.Source.origin l.source).ended → ⊥;
   short : length l.bytes ≤ most_bytes;
 }
 
