@@ -1,0 +1,22 @@
+//! The two legs of a connection: the client's messages go to the pod, and the pod's to the client.
+//!
+//! A leg owns its halves and gives them back. It hands a message on once it holds it whole, and then looks
+//! at the board; where nothing came it looks only between two messages. It reads at most 8,192 bytes at
+//! once, and only where it holds no whole message. Beside the messages that its processor hands out it
+//! takes no memory.
+//!
+//! No contract says that both legs run at once, that a leg ends, or what it tells the board at its end.
+//!
+//! Source: PostgreSQL manual, "Message Flow" of the frontend/backend protocol, version 3.0.
+#![tactic(auto)]
+
+mod both;
+mod half;
+mod laws;
+mod leg;
+mod processor;
+mod side;
+
+pub use both::{RequestEnd, ResponseEnd, request_leg, response_leg, run_legs};
+pub use laws::a_leg_goes_in_parts;
+pub use side::LegEnd;
