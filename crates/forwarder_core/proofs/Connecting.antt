@@ -149,8 +149,8 @@ module _ {S T C R : Type 0} (k : Kind S C R) (rules : Rules T C R) (p : List Pai
 
 pub fresh_turn : {X Y C R S T : Type 0} (state : X → S) (stands_for : Y → T → Type 0) (key : ClientKey) (p : List Pair) (c : Connection X Y C R) {Cm Rp : Type 0} (k : Kind S Cm Rp) (rules : Rules T Cm Rp) (d : World S T Cm) (a b : Bool) (l new : Link X Y C R) (y : Y)
     → c.fresh ≡ Some l
-    → ((m : model.Link S) (held : List ℕ) (t : T) → LinkStands state l m held → stands_for c.store t → LinkStands state new (turn k rules c.opening m t).0 held)
-    → ((m : model.Link S) (held : List ℕ) (t : T) → LinkStands state l m held → stands_for c.store t → stands_for y (turn k rules c.opening m t).1)
+    → ((m : model.Link S) (held : List ℕ) (t : T) → LinkStands state l m held → stands_for c.store t → LinkStands state new (turn k rules c.startup m t).0 held)
+    → ((m : model.Link S) (held : List ℕ) (t : T) → LinkStands state l m held → stands_for c.store t → stands_for y (turn k rules c.startup m t).1)
     → ConnectionStands state stands_for key p c (flow_of d) a b → ConnectionStands state stands_for key p (record c { fresh = Some new; store = y }) (flow_of (new_pod k rules p d d.fresh)) a b
 fresh_turn {X} {Y} {C} {R} {S} {T} state stands_for key p c k rules d a b l new y e link store h = by d.fresh refl c.fresh e h.fresh
   where
@@ -162,8 +162,8 @@ fresh_turn {X} {Y} {C} {R} {S} {T} state stands_for key p c k rules d a b l new 
         let at : LinkStands state l m [] = subst (λ (z : Link X Y C R). LinkStands state z m []) same s in
         let next = link m [] d.store at h.store in
         let after = store m [] d.store at h.store in
-        let told : turn k rules c.opening m d.store ≡ turn k rules p m d.store = ap (λ (q : List Pair). turn k rules q m d.store) h.params in
-        let all = with_fresh_store state stands_for key p c (flow_of d) a b h (Some new) y (Some (turn k rules c.opening m d.store).0) (turn k rules c.opening m d.store).1 next after in
+        let told : turn k rules c.startup m d.store ≡ turn k rules p m d.store = ap (λ (q : List Pair). turn k rules q m d.store) h.params in
+        let all = with_fresh_store state stands_for key p c (flow_of d) a b h (Some new) y (Some (turn k rules c.startup m d.store).0) (turn k rules c.startup m d.store).1 next after in
         subst (λ (fl : Flow S T). ConnectionStands state stands_for key p (record c { fresh = Some new; store = y }) fl a b)
         (ap (λ r. record (flow_of d) { fresh = Some r.0; store = r.1 }) told ∙ sym (new_pod_is k rules p d m is)) all
 

@@ -53,7 +53,7 @@ module _ {X Y C R S T : Type 0} (state : X → S) (stands_for : Y → T → Type
       let now = subst (λ (b : Bool). ConnectionStands state stands_for key p n (flow_of (if b then record d { no_dial = false } else v)) true true) works on in
       let step : moves_at d t p (stage_of e) ≡ arrives v t next =
       ap (moves_at d t p) is ∙ ap (λ (b : Bool). if b then comes_to (record d { no_dial = false }) outcome.DialFault else record d { fresh = Some link.dialed; mode = Exchanging t next }) works in
-      let unsent : Unsent next (Some link.dialed) = λ packet m is. let same : link.dialed ≡ m = cc in subst IsUnsent same (record { no_opening = refl; no_message = refl; none_delivered = refl }) in
+      let unsent : Unsent next (Some link.dialed) = λ packet m is. let same : link.dialed ≡ m = cc in subst IsUnsent same (record { no_startup = refl; no_message = refl; none_delivered = refl }) in
       advanced state stands_for key p t e f n d v next to now k q unsent (can_old (ended next) v.fresh refl) step
 
 module _ {X Y C R S T : Type 0} (state : X → S) (stands_for : Y → T → Type 0) (key : ClientKey) (p : List Pair) (t : TransferKey) (e : Course) (c : Connection X Y C R) (d : World S T C) (u : Under state stands_for key p t e c d) where

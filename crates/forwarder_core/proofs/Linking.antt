@@ -30,7 +30,7 @@ module _ {X Y C R S : Type 0} (state : X → S) (l : Link X Y C R) (m : model.Li
   -- a message was taken, or none
   pub taken_link : (r : Option Frame) (left : List ℕ) → TakenSo m r left → LinkStands state l m [] → LinkStands state (record l { replies = left }) (taken_by m r) []
   taken_link None left t h = record {
-    opening = h.opening;
+    startup = h.startup;
     unopened = h.unopened;
     pod = h.pod;
     bound = t.bound;
@@ -40,7 +40,7 @@ module _ {X Y C R S : Type 0} (state : X → S) (l : Link X Y C R) (m : model.Li
     cut = h.cut;
   }
   taken_link (Some f) left t h = record {
-    opening = h.opening;
+    startup = h.startup;
     unopened = h.unopened;
     pod = h.pod;
     bound = t.bound;
@@ -66,11 +66,11 @@ module _ {S T C R : Type 0} (k : Kind S C R) (rules : Rules T C R) (m : model.Li
       ∙ ap (λ (o : Option S). opens_or_hears k rules p m t o) some
       ∙ sym (ap (λ (o : Option S). listens k rules m t o (model.next_to_pod m)) some)
 
-  pub begun_is : (p : List Pair) → nat_lt 0 (length m.opening) ≡ true → length m.opening - m.delivered ≡ 0
+  pub begun_is : (p : List Pair) → nat_lt 0 (length m.startup) ≡ true → length m.startup - m.delivered ≡ 0
       → model.begins k p m ≡ record m { got = m.got ++ render (k.begins p).1; session = Some (k.begins p).0 }
   begun_is p some none =
-      let there : nat_lt m.delivered (length m.opening) ≡ false = le-ltb _ _ (omega arith) in
-      ap (λ (b : Bool). if b && not (nat_lt m.delivered (length m.opening)) then record m { got = m.got ++ render (k.begins p).1; session = Some (k.begins p).0 } else m) some
+      let there : nat_lt m.delivered (length m.startup) ≡ false = le-ltb _ _ (omega arith) in
+      ap (λ (b : Bool). if b && not (nat_lt m.delivered (length m.startup)) then record m { got = m.got ++ render (k.begins p).1; session = Some (k.begins p).0 } else m) some
       ∙ ap (λ (b : Bool). if not b then record m { got = m.got ++ render (k.begins p).1; session = Some (k.begins p).0 } else m) there
 
 pub has_some : {X S : Type 0} (state : X → S) (o : Option X) (n : Option S) → is_some o ≡ true → option_map state o ≡ n → (s : S) × (n ≡ Some s)
@@ -88,7 +88,7 @@ reads_back_link state l m held n come e h =
     let size : length l.replies ≡ length m.got - m.back = ap length h.replies ∙ length-drop m.back m.got in
     let to : min (length m.got) (m.back + n) ≡ m.back + come = omega (arith, h.bound) in
     rw to (record {
-      opening = h.opening;
+      startup = h.startup;
       unopened = h.unopened;
       pod = h.pod;
       bound = omega (arith, h.bound);
@@ -101,7 +101,7 @@ reads_back_link state l m held n come e h =
 -- a message was handed out
 pub passes_link : {X Y C R S : Type 0} (state : X → S) (l : Link X Y C R) (m : model.Link S) (held left : List ℕ) (f : Frame) → front held ≡ Whole f left → LinkStands state l m held → LinkStands state l (model.passes m) left
 passes_link state l m held left f e h = record {
-  opening = h.opening;
+  startup = h.startup;
   unopened = h.unopened;
   pod = h.pod;
   bound = h.bound;

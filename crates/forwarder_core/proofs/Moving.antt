@@ -10,7 +10,8 @@ use Rattle.pgw_messages.specs.declared.pod_key.PodKey.{PodKey}
 use Rattle.proxy_outside.specs.declared.identity.ClientKey.{ClientKey}
 use Rattle.session_model.specs.Texts.{restore_query}
 use Rattle.session_model.specs.declared.transfer.TransferKey.{TransferKey}
-use Rattle.transfer_stages.specs.Exchange.{wants, takes, ended, packet, row_said, old_ends, keeps_key, pod_key, is_ready_idle, old_unexpected, new_unexpected}
+use Rattle.transfer_stages.specs.Rows as rows
+use Rattle.transfer_stages.specs.Exchange.{wants, takes, ended, packet, row_said, old_ends, keeps_key, is_ready_idle, old_unexpected, new_unexpected}
 use Rattle.transfer_stages.specs.declared.stage.Cut.TheVariants.{Ended}
 use Rattle.transfer_stages.specs.declared.stage.Outcome.{Outcome}
 use Rattle.transfer_stages.specs.declared.stage.Outcome.TheVariants as outcome
@@ -205,7 +206,7 @@ takes_new t p (at.NewStatus state n key) f e =
     (either NoPacket (is_ready_idle f) (at.Restore state key) (new_unexpected f) refl refl))
   where
     by : (key : Option PodKey) → is_packet (keeps_key state n f key) ≡ false
-    by None = either NoPacket (length f.body == 8) (at.NewStatus state n (Some (pod_key f))) (new_unexpected f) refl refl
+    by None = either NoPacket (is_some (rows.key_of f)) (at.NewStatus state n (rows.key_of f)) (new_unexpected f) refl refl
     by (Some k) = refl
 takes_new t p (at.NewColumns key) f e = either NoPacket _ (at.NewRow key) (new_unexpected f) refl refl
 takes_new t p (at.NewRow key) f e = either NoPacket _ (at.NewTag key) (new_unexpected f) refl refl

@@ -77,28 +77,28 @@ module _ {S : Type 0} where
 
   pub unsent_delivers : (n : ℕ) (m : link.Link S) → IsUnsent m → IsUnsent (link.delivers m n)
   unsent_delivers n m h = record {
-    no_opening = h.no_opening;
+    no_startup = h.no_startup;
     no_message = h.no_message;
-    none_delivered = let a = ap length h.no_opening in let b = ap length h.no_message in omega (arith, h.none_delivered);
+    none_delivered = let a = ap length h.no_startup in let b = ap length h.no_message in omega (arith, h.none_delivered);
   }
 
   pub unsent_cuts : (n : ℕ) (m : link.Link S) → IsUnsent m → IsUnsent (link.cuts m n)
-  unsent_cuts n m h = record { no_opening = h.no_opening; no_message = h.no_message; none_delivered = h.none_delivered }
+  unsent_cuts n m h = record { no_startup = h.no_startup; no_message = h.no_message; none_delivered = h.none_delivered }
 
   pub unsent_turn : {T C R : Type 0} (k : Kind S C R) (rules : Rules T C R) (p : List Pair) (m : link.Link S) (t : T) → IsUnsent m → IsUnsent (turn k rules p m t).0
   unsent_turn k rules p m t h = by m.cut m.session
     where
       heard : (s : S) (o : Option Frame) → IsUnsent (listens k rules m t (Some s) o).0
       heard s None = h
-      heard s (Some f) = record { no_opening = h.no_opening; no_message = h.no_message; none_delivered = h.none_delivered }
+      heard s (Some f) = record { no_startup = h.no_startup; no_message = h.no_message; none_delivered = h.none_delivered }
 
       begun : (b : Bool) → IsUnsent (if b then record m { got = m.got ++ render (k.begins p).1; session = Some (k.begins p).0 } else m)
-      begun true = record { no_opening = h.no_opening; no_message = h.no_message; none_delivered = h.none_delivered }
+      begun true = record { no_startup = h.no_startup; no_message = h.no_message; none_delivered = h.none_delivered }
       begun false = h
 
       by : (b : Bool) (o : Option S) → IsUnsent (if b then (m, t) else opens_or_hears k rules p m t o).0
       by true o = h
-      by false None = begun ((nat_lt 0 (length m.opening)) && not (nat_lt m.delivered (length m.opening)))
+      by false None = begun ((nat_lt 0 (length m.startup)) && not (nat_lt m.delivered (length m.startup)))
       by false (Some s) = heard s (link.next_to_pod m)
 
 -- ---- a world that is not closed

@@ -65,7 +65,7 @@ pub record SideStands {X Y C R S : Type 0} (state : X → S) (l : Link X Y C R) 
 
 pub record ConnectionStands {X Y C R S T : Type 0} (state : X → S) (stands_for : Y → T → Type 0) (key : ClientKey) (p : List Pair) (c : Connection X Y C R) (fl : Flow S T) (parked held : Bool) : Type 0 where
   pub same_key : c.key ≡ key
-  pub params : c.opening ≡ p
+  pub params : c.startup ≡ p
   pub counts : c.counts ≡ counts_in fl
   pub bound : fl.read ≤ length fl.script
   pub script : c.script ≡ drop fl.read fl.script

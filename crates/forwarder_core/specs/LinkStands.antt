@@ -21,9 +21,9 @@ abbrev pub Reads : {S : Type 0} → model.Link S → List ℕ → Type 0
 Reads m held = (handed : List Frame) × (length handed ≡ m.out) × Cuts handed held (take m.back m.got)
 
 pub record LinkStands {X Y C R S : Type 0} (state : X → S) (l : Link X Y C R) (m : model.Link S) (held : List ℕ) : Type 0 where
-  pub opening : l.opening ≡ nat_lt 0 (length m.opening)
-  pub unopened : l.unopened ≡ length m.opening - m.delivered
-  pub pod : Hands l.pod m.sent (m.delivered - length m.opening) m.taken
+  pub startup : l.startup ≡ nat_lt 0 (length m.startup)
+  pub unopened : l.unopened ≡ length m.startup - m.delivered
+  pub pod : Hands l.pod m.sent (m.delivered - length m.startup) m.taken
   pub bound : m.back ≤ length m.got
   pub replies : l.replies ≡ drop m.back m.got
   pub reads : Reads m held
@@ -40,7 +40,7 @@ unless_cut f m = if m.cut then m else f m
 
 -- nothing was sent on the link
 pub record IsUnsent {S : Type 0} (m : model.Link S) : Type 0 where
-  pub no_opening : m.opening ≡ []
+  pub no_startup : m.startup ≡ []
   pub no_message : m.sent ≡ []
   pub none_delivered : m.delivered ≡ 0
 

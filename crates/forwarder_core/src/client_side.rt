@@ -8,6 +8,7 @@ ghost use Rattle.proxy_outside.specs.declared.identity.ClientKey.{ClientKey as K
 use crate::connection::Connection;
 use forwarder_world::Close;
 use pgw_frames::{Frame, NoMemory};
+use pgw_messages::tags;
 use processor_core::Step;
 use session_model::Session;
 
@@ -22,7 +23,7 @@ fn may_be_given(piece: &[u8]) -> bool
 fn close_at_terminate(tag: u8) -> Option<Close>
     ensures { result ≡ (if tag == 88 then Some Close.Bye else None) }
 {
-    if tag == b'X' {
+    if tag == tags::TERMINATE {
         return Some(Close::Bye);
     }
     None

@@ -5,8 +5,8 @@ ghost use Rattle.pgw_messages.specs.declared.params.Pair.{Pair};
 ghost use Rattle.proxy_outside.specs.declared.identity.ClientKey.{ClientKey as Key};
 
 use crate::link::Link;
-use crate::opening::Opening;
 use crate::replies::Replies;
+use crate::startup::Startup;
 use forwarder_world::Counts;
 use pgw_frames::{ByteQueue, Bytes, Frame, NoMemory};
 use pgw_messages::Params;
@@ -22,7 +22,7 @@ use transfer_exchange::Exchange;
 pub(crate) struct Connection<S: Session> {
     pub(crate) alloc: Global,
     pub(crate) key: ClientKey,
-    pub(crate) opening: Opening,
+    pub(crate) startup: Startup,
     pub(crate) counts: Counts,
     /// What the client gave and nobody read.
     pub(crate) script: ByteQueue,
@@ -54,13 +54,13 @@ impl<S: Session> Connection<S> {
         requires { CanStart params }
         ensures { IfOk result (λ c. ConnectionStands S.state S.Store.stands_for key params c (flow_of (start S.kind S.Store.rules params)) false false) }
     {
-        let opening = Opening::new(params);
-        let link = Link::opened(alloc, &opening)?;
+        let startup = Startup::new(params);
+        let link = Link::opened(alloc, &startup)?;
         let store = SharedStore::open(alloc)?;
         Ok(Connection {
             alloc,
             key,
-            opening,
+            startup,
             counts: Counts {
                 moves: 0,
                 failed: 0,
@@ -152,9 +152,9 @@ impl<S: Session> Connection<S> {
 
     /// A transfer of this session with this key.
     pub fn exchange(&self, key: &TransferKey) -> Result<Exchange, NoMemory>
-        ensures { IfOk result (λ e. (key_of e ≡ key.now) × (params_of e ≡ self.now.opening) × (stage_of e ≡ at.AskOld)) }
+        ensures { IfOk result (λ e. (key_of e ≡ key.now) × (params_of e ≡ self.now.startup) × (stage_of e ≡ at.AskOld)) }
     {
-        let exchange = Exchange::start(self.alloc, key, self.opening.params())?;
+        let exchange = Exchange::start(self.alloc, key, self.startup.params())?;
         Ok(exchange)
     }
 

@@ -11,12 +11,12 @@ mod connection;
 mod forwarder;
 mod link;
 mod new_link;
-mod opening;
 mod outcome;
 mod phases;
 mod pod_side;
 mod replies;
 mod shown;
+mod startup;
 mod transfer;
 mod world;
 

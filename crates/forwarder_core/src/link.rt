@@ -6,7 +6,7 @@ ghost use Rattle.pgw_frames.specs.Frames.{front, Whole, IsGood, render};
 ghost use Rattle.pgw_messages.specs.Startup.{startup_packet};
 
 use crate::channel::{Channel, whole};
-use crate::opening::Opening;
+use crate::startup::Startup;
 use pgw_frames::{ByteQueue, Frame, Frames, NoMemory};
 use session_model::{PodSession, Session, SharedStore};
 use std::alloc::Global;
@@ -15,7 +15,7 @@ use std::alloc::Global;
 #[derive(Drop)]
 pub(crate) struct Link<S: Session> {
     /// Whether a startup packet was sent.
-    opening: bool,
+    startup: bool,
     /// How many bytes of it did not reach the pod yet.
     unopened: usize,
     /// What is sent to the pod behind the startup packet.
@@ -48,7 +48,7 @@ impl<S: Session> Link<S> {
         ensures { LinkStands S.state result dialed [] }
     {
         Link {
-            opening: false,
+            startup: false,
             unopened: 0,
             pod: Channel::new(alloc),
             replies: ByteQueue::new(alloc),
@@ -58,14 +58,14 @@ impl<S: Session> Link<S> {
     }
 
     /// A link whose pod has taken the startup packet, and greets.
-    pub fn opened(alloc: Global, opening: &Opening) -> Result<Link<S>, NoMemory>
-        ensures { IfOk result (λ l. LinkStands S.state l (opened S.kind opening.now (startup_packet opening.now)) []) }
+    pub fn opened(alloc: Global, startup: &Startup) -> Result<Link<S>, NoMemory>
+        ensures { IfOk result (λ l. LinkStands S.state l (opened S.kind startup.now (startup_packet startup.now)) []) }
     {
-        let (session, greeting) = PodSession::begin(alloc, opening.params())?;
+        let (session, greeting) = PodSession::begin(alloc, startup.params())?;
         let mut replies = ByteQueue::new(alloc);
         write_frames(&mut replies, &greeting)?;
         Ok(Link {
-            opening: true,
+            startup: true,
             unopened: 0,
             pod: Channel::new(alloc),
             replies,
@@ -105,10 +105,10 @@ impl<S: Session> Link<S> {
     }
 
     /// Sends the startup packet. Nothing was sent before it.
-    pub fn send_opening(&mut self, packet: &[u8])
+    pub fn send_startup(&mut self, packet: &[u8])
         ensures { (m : model S.State) (held : List ℕ) → IsUnsent m → LinkStands S.state self.old m held → LinkStands S.state self.new (opens m packet.now) held }
     {
-        self.opening = !packet.is_empty();
+        self.startup = !packet.is_empty();
         self.unopened = packet.len();
     }
 
@@ -144,13 +144,13 @@ impl<S: Session> Link<S> {
     }
 
     /// The pod takes the startup packet, where it was delivered whole, and greets.
-    pub fn begin(&mut self, alloc: Global, opening: &Opening) -> Result<(), NoMemory>
-        ensures { OnOk result (LinkLeads S.state self.old self.new (λ m. begins S.kind opening.now m)) }
+    pub fn begin(&mut self, alloc: Global, startup: &Startup) -> Result<(), NoMemory>
+        ensures { OnOk result (LinkLeads S.state self.old self.new (λ m. begins S.kind startup.now m)) }
     {
-        if !self.opening || self.unopened > 0 {
+        if !self.startup || self.unopened > 0 {
             return Ok(());
         }
-        let (session, greeting) = PodSession::begin(alloc, opening.params())?;
+        let (session, greeting) = PodSession::begin(alloc, startup.params())?;
         write_frames(&mut self.replies, &greeting)?;
         self.session = Some(session);
         Ok(())
@@ -160,17 +160,17 @@ impl<S: Session> Link<S> {
     pub fn take_turn(
         &mut self,
         alloc: Global,
-        opening: &Opening,
+        startup: &Startup,
         store: &mut SharedStore<S::Store>,
     ) -> Result<(), NoMemory>
-        ensures link { OnOk result ((m : model S.State) (held : List ℕ) (t : S.Store.State) → LinkStands S.state self.old m held → S.Store.stands_for store.old t → LinkStands S.state self.new (turn S.kind S.Store.rules opening.now m t).0 held) }
-        ensures store { OnOk result ((m : model S.State) (held : List ℕ) (t : S.Store.State) → LinkStands S.state self.old m held → S.Store.stands_for store.old t → S.Store.stands_for store.new (turn S.kind S.Store.rules opening.now m t).1) }
+        ensures link { OnOk result ((m : model S.State) (held : List ℕ) (t : S.Store.State) → LinkStands S.state self.old m held → S.Store.stands_for store.old t → LinkStands S.state self.new (turn S.kind S.Store.rules startup.now m t).0 held) }
+        ensures store { OnOk result ((m : model S.State) (held : List ℕ) (t : S.Store.State) → LinkStands S.state self.old m held → S.Store.stands_for store.old t → S.Store.stands_for store.new (turn S.kind S.Store.rules startup.now m t).1) }
     {
         if self.cut {
             return Ok(());
         }
         if self.session.is_none() {
-            self.begin(alloc, opening)?;
+            self.begin(alloc, startup)?;
             return Ok(());
         }
         self.hear(alloc, store)?;

@@ -37,7 +37,7 @@ impl<S: Session> Connection<S> {
         match &mut self.fresh {
             None => Ok(()),
             Some(link) => {
-                link.take_turn(self.alloc, &self.opening, &mut self.store)?;
+                link.take_turn(self.alloc, &self.startup, &mut self.store)?;
                 Ok(())
             }
         }

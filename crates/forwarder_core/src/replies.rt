@@ -10,6 +10,7 @@ ghost use Rattle.forwarder_core.specs.RepliesStand.{RepliesStand, ReplyOf, Tally
 
 use crate::channel::whole;
 use pgw_frames::{Cutter, Frame, NoMemory};
+use pgw_messages::tags;
 use processor_core::{Response, ResponseTally, Step};
 use std::alloc::Global;
 
@@ -73,7 +74,7 @@ impl Replies {
         requires { self.old.greeting ≡ None }
         ensures { (f : Message) (passed : List Message) → f.tag ≡ tag → has_ready passed ≡ false → ResponseStands self.old.response [] [] false → RepliesStand self.new cutter (passed ++ f ∷ []) false }
     {
-        if tag == b'Z' {
+        if tag == tags::READY_FOR_QUERY {
             self.response = Response::behind(cutter);
         } else {
             self.greeting = Some(cutter);

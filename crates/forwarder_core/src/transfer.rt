@@ -83,8 +83,8 @@ fn send_on<S: Session>(exchange: &mut Exchange, link: &mut Link<S>) -> Result<()
         return Ok(());
     }
     let text = exchange.text()?;
-    if exchange.is_opening() {
-        link.send_opening(text.as_slice());
+    if exchange.is_startup() {
+        link.send_startup(text.as_slice());
         exchange.sent();
         return Ok(());
     }

@@ -1,6 +1,6 @@
 -- When an exchange ends, and what its end brings.
 use Rattle.std.proofs.Common.{◌≡◌, ℕ, ◌+◌, Bool, true, false, List, [], ◌∷◌, length, take, Option, Some, None, refl, sym, ap, subst, ◌∙◌}
-use Rattle.std.specs.Prelude.{slice_get, nat_lt, ◌==◌, ◌&&◌, if◌then◌else◌, codes}
+use Rattle.std.specs.Prelude.{is_some, slice_get, nat_lt, ◌==◌, ◌&&◌, if◌then◌else◌, codes}
 use Rattle.std.proofs.lemmas.Bool.{cond_both}
 use Rattle.pgw_frames.specs.declared.frame.Frame.{Frame}
 use Rattle.pgw_frames.specs.Frames.{frames, bad}
@@ -11,7 +11,8 @@ use Rattle.proxy_outside.specs.declared.identity.ClientKey.{ClientKey}
 use Rattle.session_model.specs.Kind.{Kind}
 use Rattle.session_model.specs.Texts.{transfer_query, restore_query}
 use Rattle.session_model.specs.declared.transfer.TransferKey.{TransferKey}
-use Rattle.transfer_stages.specs.Rows.{is_columns, is_fault, row_of}
+use Rattle.transfer_stages.specs.Rows.{fault_of, key_of, row_of}
+use Rattle.pgw_messages.specs.declared.backend.fields.Field.{Field}
 use Rattle.transfer_stages.specs.Exchange as exchange
 use Rattle.transfer_stages.specs.declared.stage.Cut.TheVariants.{Unexpected, Ended, WriteFault}
 use Rattle.transfer_stages.specs.declared.stage.Outcome.{Outcome}
@@ -62,7 +63,7 @@ module _ {S T C : Type 0} (w : World S T C) (t : TransferKey) (p : List Pair) (f
   old_takes : (x : Stage) → exchange.wants x ≡ want.AwaitOld → Old (exchange.takes t p x f)
   unfolding exchange.takes
   old_takes at.OldColumns e = either Old _ at.OldRow (exchange.old_unexpected f) refl old_cut
-  old_takes at.OldRow e = old_row (exchange.said t p (row_of 4 f))
+  old_takes at.OldRow e = old_row (exchange.said t p (row_of f))
   old_takes (at.OldTag s) e = either Old _ (at.OldReady s) (exchange.old_unexpected f) refl old_cut
   old_takes (at.OldReady (Given state token)) e = either Old _ (at.Dial state token) (exchange.old_unexpected f) refl old_cut
   old_takes (at.OldReady (Refuses reason)) e = either Old _ (at.Ended (outcome.Refused reason)) (exchange.old_unexpected f) (old_refused reason) old_cut
@@ -85,17 +86,17 @@ module _ {S T C : Type 0} (w : World S T C) (t : TransferKey) (p : List Pair) (l
   New y = Turned w (arrives (record w { fresh = Some (link.takes l f) }) t y) want.AwaitNew (exchange.ended y)
 
   new_cut : New (exchange.new_unexpected f)
-  new_cut = by (is_fault f)
+  new_cut = by (fault_of f)
     where
-      by : (b : Bool) → New (at.Ended (if b then outcome.RevivalRefused f else outcome.NewCut (Unexpected f)))
-      by true = (refl, refl)
-      by false = (refl, refl)
+      by : (fault : Option (List Field)) → New (at.Ended (exchange.refusal f fault))
+      by None = (refl, refl)
+      by (Some fields) = (refl, refl)
 
   new_moved : (key : Option PodKey) → New (at.Ended (outcome.Moved key))
   new_moved key = ((l, is, ap (λ (o : Option Frame). record w { link = link.taken_by l o; fresh = None; moves = w.moves + 1; mode = Running }) (sym n)), refl)
 
   new_key : (state : List ℕ) (m : ℕ) (key : Option PodKey) → New (exchange.keeps_key state m f key)
-  new_key state m None = either New (length f.body == 8) (at.NewStatus state m (Some (exchange.pod_key f))) (exchange.new_unexpected f) refl new_cut
+  new_key state m None = either New (is_some (key_of f)) (at.NewStatus state m (key_of f)) (exchange.new_unexpected f) refl new_cut
   new_key state m (Some key) = new_cut
 
   new_greets : (state : List ℕ) (m : ℕ) (key : Option PodKey) → New (exchange.greets state m key f)

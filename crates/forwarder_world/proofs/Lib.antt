@@ -11,4 +11,4 @@ pub mod Moves
 pub mod Runs
 pub mod Turning
 pub mod Ending
-pub mod Opening
+pub mod StartupPackets

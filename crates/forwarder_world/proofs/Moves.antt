@@ -1,6 +1,6 @@
 -- The steps of an exchange keep what holds.
 use Rattle.std.proofs.Common.{◌≡◌, ℕ, ◌+◌, false, List, [], ◌∷◌, ◌++◌, length, Option, Some, None, refl, sym, ap, subst, ◌∙◌, append_assoc, inl, inr}
-use Rattle.std.specs.Prelude.{slice_get, nat_lt, ◌==◌, ◌&&◌, if◌then◌else◌, codes}
+use Rattle.std.specs.Prelude.{is_some, slice_get, nat_lt, ◌==◌, ◌&&◌, if◌then◌else◌, codes}
 use Rattle.std.specs.Str.{bytes_eq}
 use Rattle.std.proofs.lemmas.Bool.{cond_both, and_parts, eqb-true}
 use Rattle.std.proofs.lemmas.List.{append-nil}
@@ -14,9 +14,9 @@ use Rattle.session_model.specs.Texts.{transfer_query, transfer_row, transfer_tag
 use Rattle.pgw_messages.specs.declared.params.Pair.{Pair}
 use Rattle.session_model.specs.declared.transfer.TransferKey.{TransferKey}
 use Rattle.transfer_stages.proofs.Saying.{transfer_good, restore_good, says_dump}
-use Rattle.transfer_stages.specs.Rows.{is_fault}
+use Rattle.pgw_messages.specs.declared.backend.fields.Field.{Field}
 use Rattle.transfer_stages.specs.Exchange as exchange
-use Rattle.transfer_stages.specs.Rows.{is_columns, row_of}
+use Rattle.transfer_stages.specs.Rows.{fault_of, has_names, has_one_column, key_of, row_of}
 use Rattle.pgw_messages.specs.declared.pod_key.PodKey.{PodKey}
 use Rattle.transfer_stages.specs.declared.stage.Cut.{Cut}
 use Rattle.transfer_stages.specs.declared.stage.Cut.TheVariants.{Unexpected, Ended, WriteFault}
@@ -35,7 +35,7 @@ use Rattle.forwarder_world.proofs.Sums.{Calm}
 use Rattle.forwarder_world.proofs.Lists.{good_get}
 use Rattle.forwarder_world.proofs.Links.{Sends, Gets, sends_push, gets_next_all, gets_take}
 use Rattle.forwarder_world.proofs.Keeps.{Parts, view, Keeps}
-use Rattle.forwarder_world.proofs.Within.{face, NoOwn, Answered, HasBlob, Says, OldAt, NewAt, AtStage, InMode, Holds, Greeting, Opening, Waiting, RestoredSome}
+use Rattle.forwarder_world.proofs.Within.{face, NoOwn, Answered, HasBlob, Says, OldAt, NewAt, AtStage, InMode, Holds, Greeting, AtStartup, Waiting, RestoredSome}
 
 -- a greeting ends with its ReadyForQuery
 ends_there : (gone more : List Frame) (f : Frame) → EndsReady (gone ++ f ∷ more) → f.tag ≡ 90 → more ≡ []
@@ -119,10 +119,10 @@ module _ {S T C R : Type 0} (k : Kind S C R) (rules : Rules T C R) (kept : S →
       gets_next_all w.link.got w.link.cut w.link.out q.gone q.own_got f g e
 
   -- what the row says is so
-  says_so : (q : Parts S) (t : TransferKey) (f : Frame) (s : Said) → f ≡ transfer_row t (k.dumps q.session) (k.token q.session) → IsGood f → exchange.said t p (row_of 4 f) ≡ Some s → Says k q.session s
+  says_so : (q : Parts S) (t : TransferKey) (f : Frame) (s : Said) → f ≡ transfer_row t (k.dumps q.session) (k.token q.session) → IsGood f → exchange.said t p (row_of f) ≡ Some s → Says k q.session s
   says_so q t f (Given b token) e good said =
       says_dump t p (k.dumps q.session) (k.token q.session) b token (λ c d. laws.blob_bytes q.session c d) (λ r d. laws.says_why q.session r d)
-      (subst (λ (g : Frame). IsGood g) e good) (subst (λ (g : Frame). exchange.said t p (row_of 4 g) ≡ Some (Given b token)) e said)
+      (subst (λ (g : Frame). IsGood g) e good) (subst (λ (g : Frame). exchange.said t p (row_of g) ≡ Some (Given b token)) e said)
   says_so q t f (Refuses reason) e good said = tt
 
   row_comes : (w : World S T C) (t : TransferKey) (q : Parts S) (f : Frame) (more : List Frame) (o : Option Said) → K w q → AtStage k p t q w.fresh (at.OldTag (Refuses [])) → ((s : Said) → o ≡ Some s → Says k q.session s) → H (arrives w t (exchange.row_said f o))
@@ -149,7 +149,7 @@ module _ {S T C R : Type 0} (k : Kind S C R) (rules : Rules T C R) (kept : S →
         | inl o ↦ absurd (let g = o.1 in cc)
         | inr o ↦
             let m : more ≡ transfer_row t (k.dumps q.session) (k.token q.session) ∷ transfer_tag ∷ ready (k.status q.session) ∷ [] = let g = o.2 in cc in
-            cond_both (is_columns exchange.transfer_names f) at.OldRow (exchange.old_unexpected f) (λ y. H (arrives v t y))
+            cond_both (has_names exchange.transfer_names f) at.OldRow (exchange.old_unexpected f) (λ y. H (arrives v t y))
             (λ b. come v t (read_parts q f more) at.OldRow n (record { calm = a.calm; old = (o.0, o.1, m); new = a.new }))
             (λ b. shut v (read_parts q f more) n _)
       ]
@@ -158,7 +158,7 @@ module _ {S T C R : Type 0} (k : Kind S C R) (rules : Rules T C R) (kept : S →
       let n = read_old w q f more a.calm.nothing_owed e h in
       let is : f ≡ transfer_row t (k.dumps q.session) (k.token q.session) = let g = a.old.2 in cc in
       let m : more ≡ transfer_tag ∷ ready (k.status q.session) ∷ [] = let g = a.old.2 in cc in
-      row_comes v t (read_parts q f more) f more (exchange.said t p (row_of 4 f)) n (record { calm = a.calm; old = ((a.old.0, a.old.1, m), tt); new = a.new })
+      row_comes v t (read_parts q f more) f more (exchange.said t p (row_of f)) n (record { calm = a.calm; old = ((a.old.0, a.old.1, m), tt); new = a.new })
       (λ s o. says_so q t f s is (good_next w q f more a.calm.nothing_owed e h) o)
   old_takes w t q (at.OldTag s) f more e h a aw =
       let v : World S T C = record w { link = link.takes w.link f } in
@@ -245,7 +245,11 @@ module _ {S T C R : Type 0} (k : Kind S C R) (rules : Rules T C R) (kept : S →
 
   -- what is not expected of the new link ends the exchange, and the session goes on at the old one
   new_fails : (w : World S T C) (t : TransferKey) (q : Parts S) (f : Frame) → K w q → Answered q [] → H (arrives w t (exchange.new_unexpected f))
-  new_fails w t q f h a = cond_both (is_fault f) (outcome.RevivalRefused f) (outcome.NewCut (Unexpected f)) (λ o. H (comes_to w o)) (λ c. failed w q h a) (λ c. failed w q h a)
+  new_fails w t q f h a = by (fault_of f)
+    where
+      by : (fault : Option (List Field)) → H (comes_to w (exchange.refusal f fault))
+      by None = failed w q h a
+      by (Some fields) = failed w q h a
 
   -- the session goes on at the new link
   moved_holds : (w : World S T C) (q : Parts S) (l : Link S) (o : Option (Link S)) → o ≡ Some l → K w q → Calm k q.session q.ahead q.owed → Answered q [] → RestoredSome (face l) q.session [] → H (moved w o)
@@ -285,12 +289,12 @@ module _ {S T C R : Type 0} (k : Kind S C R) (rules : Rules T C R) (kept : S →
   left_of : (l : Link S) (s : S) (left : List Frame) (f : Frame) → RestoredSome (face l) s left → link.next_of_got l ≡ Some f → (more : List Frame) × (left ≡ f ∷ more)
   left_of l s left f r e = gets_next_all l.got l.cut l.out r.1 left f r.2.gets e
 
-  read_opening : (l : Link S) (f : Frame) → Opening k p (face l) → link.next_of_got l ≡ Some f → (gone : List Frame) × (more : List Frame) × Greeting k p (face (link.takes l f)) gone more × (((k.begins p).1 ≡ gone ++ more) × (f.tag ≡ 90 → more ≡ []))
-  read_opening l f (inl u) e =
+  read_startup : (l : Link S) (f : Frame) → AtStartup k p (face l) → link.next_of_got l ≡ Some f → (gone : List Frame) × (more : List Frame) × Greeting k p (face (link.takes l f)) gone more × (((k.begins p).1 ≡ gone ++ more) × (f.tag ≡ 90 → more ≡ []))
+  read_startup l f (inl u) e =
       let got : slice_get (frames []) l.out ≡ Some f = subst (λ (b : List ℕ). slice_get (frames b) l.out ≡ Some f) u.got_is e in
       let none : slice_get [] l.out ≡ Some f = subst (λ (g : List Frame). slice_get g l.out ≡ Some f) frames_nil got in
       absurd cc
-  read_opening l f (inr g) e =
+  read_startup l f (inr g) e =
       let n = gets_next_all l.got l.cut l.out g.0 g.1 f g.2.gets e in
       let whole : g.0 ++ f ∷ n.0 ≡ (k.begins p).1 = subst (λ (x : List Frame). g.0 ++ x ≡ (k.begins p).1) n.1 g.2.whole in
       let all : (g.0 ++ f ∷ []) ++ n.0 ≡ (k.begins p).1 = append_assoc g.0 (f ∷ []) n.0 ∙ whole in (
@@ -312,12 +316,12 @@ module _ {S T C R : Type 0} (k : Kind S C R) (rules : Rules T C R) (kept : S →
   new_comes : (w : World S T C) (t : TransferKey) (q : Parts S) (x y : Stage) (m : Link S) → K w q → AtStage k p t q w.fresh x → OldAt k t q y → NewAt k p q.session y (face m) → H (record (with_fresh w m) { mode = Exchanging t y })
   new_comes w t q x y m h a old new = new_stage w t q x y m h a old new
 
-  greet_takes : (w : World S T C) (t : TransferKey) (q : Parts S) (x : Stage) (l : Link S) (f : Frame) (b : List ℕ) (n : ℕ) (n_key : Option PodKey) → K w q → AtStage k p t q w.fresh x → Answered q [] × HasBlob k q.session b → Opening k p (face l) → link.next_of_got l ≡ Some f
+  greet_takes : (w : World S T C) (t : TransferKey) (q : Parts S) (x : Stage) (l : Link S) (f : Frame) (b : List ℕ) (n : ℕ) (n_key : Option PodKey) → K w q → AtStage k p t q w.fresh x → Answered q [] × HasBlob k q.session b → AtStartup k p (face l) → link.next_of_got l ≡ Some f
       → H (arrives (with_fresh w (link.takes l f)) t (exchange.greets b n n_key f))
   greet_takes w t q x l f b n n_key h a old o e =
       let v : World S T C = with_fresh w (link.takes l f) in
-      let r = read_opening l f o e in
-      let later : Opening k p (face (link.takes l f)) = inr (r.0, r.1, r.2) in
+      let r = read_startup l f o e in
+      let later : AtStartup k p (face (link.takes l f)) = inr (r.0, r.1, r.2) in
       cond_both ((f.tag == 83) && nat_lt n 1000) (at.NewStatus b (n + 1) n_key) (if f.tag == 75 then exchange.keeps_key b n f n_key else if exchange.is_ready_idle f then at.Restore b n_key else exchange.new_unexpected f) (λ y. H (arrives v t y))
       (λ c. new_comes w t q x (at.NewStatus b (n + 1) n_key) (link.takes l f) h a old later)
       (λ c. cond_both (f.tag == 75) (exchange.keeps_key b n f n_key) (if exchange.is_ready_idle f then at.Restore b n_key else exchange.new_unexpected f) (λ y. H (arrives v t y))
@@ -328,11 +332,11 @@ module _ {S T C R : Type 0} (k : Kind S C R) (rules : Rules T C R) (kept : S →
       new_comes w t q x (at.Restore b n_key) (link.takes l f) h a old (r.0, subst (λ (g : List Frame). Greeting k p (face (link.takes l f)) r.0 g) (r.3.1 tag) r.2))
       (λ i. new_fails v t q f h old.0)))
     where
-      by_key : (o : Option PodKey) → Opening k p (face (link.takes l f)) → H (arrives (with_fresh w (link.takes l f)) t (exchange.keeps_key b n f o))
+      by_key : (o : Option PodKey) → AtStartup k p (face (link.takes l f)) → H (arrives (with_fresh w (link.takes l f)) t (exchange.keeps_key b n f o))
       by_key (Some u) later = new_fails (with_fresh w (link.takes l f)) t q f h old.0
       by_key None later =
-          cond_both (length f.body == 8) (at.NewStatus b n (Some (exchange.pod_key f))) (exchange.new_unexpected f) (λ y. H (arrives (with_fresh w (link.takes l f)) t y))
-          (λ c. new_comes w t q x (at.NewStatus b n (Some (exchange.pod_key f))) (link.takes l f) h a old later)
+          cond_both (is_some (key_of f)) (at.NewStatus b n (key_of f)) (exchange.new_unexpected f) (λ y. H (arrives (with_fresh w (link.takes l f)) t y))
+          (λ c. new_comes w t q x (at.NewStatus b n (key_of f)) (link.takes l f) h a old later)
           (λ c. new_fails (with_fresh w (link.takes l f)) t q f h old.0)
 
   -- the stage after a message from the new pod
@@ -340,7 +344,7 @@ module _ {S T C R : Type 0} (k : Kind S C R) (rules : Rules T C R) (kept : S →
       → H (arrives (with_fresh w (link.takes l f)) t (exchange.takes t p x f))
   unfolding exchange.takes
   new_takes w t q (at.NewAuth b) l f h a n e aw =
-      let r = read_opening l f n e in
+      let r = read_startup l f n e in
       cond_both (exchange.is_auth_ok f) (at.NewStatus b 0 None) (exchange.new_unexpected f) (λ y. H (arrives (with_fresh w (link.takes l f)) t y))
       (λ c. new_comes w t q (at.NewAuth b) (at.NewStatus b 0 None) (link.takes l f) h a a.old (inr (r.0, r.1, r.2)))
       (λ c. new_fails (with_fresh w (link.takes l f)) t q f h a.old.0)
@@ -352,7 +356,7 @@ module _ {S T C R : Type 0} (k : Kind S C R) (rules : Rules T C R) (kept : S →
             let y = left_of l q.session restore_reply f r e in
             let z = y.1 in
             let is : restore_columns ≡ f = cc in
-            cond_both (is_columns (codes "crdb_internal.deserialize_session" ∷ []) f) (at.NewRow n_key) (exchange.new_unexpected f) (λ y. H (arrives (with_fresh w (link.takes l f)) t y))
+            cond_both (has_one_column f) (at.NewRow n_key) (exchange.new_unexpected f) (λ y. H (arrives (with_fresh w (link.takes l f)) t y))
             (λ c. new_comes w t q (at.NewColumns n_key) (at.NewRow n_key) (link.takes l f) h a a.old (read_restored l q.session f restore_reply (restore_row ∷ restore_tag ∷ ready 73 ∷ []) r (ap (λ (g : Frame). g ∷ restore_row ∷ restore_tag ∷ ready 73 ∷ []) is)))
             (λ c. new_fails (with_fresh w (link.takes l f)) t q f h a.old.0)
       ]
@@ -360,7 +364,7 @@ module _ {S T C R : Type 0} (k : Kind S C R) (rules : Rules T C R) (kept : S →
       let y = left_of l q.session _ f n e in
       let z = y.1 in
       let is : restore_row ≡ f = cc in
-      cond_both (exchange.has_t (row_of 1 f)) (at.NewTag n_key) (exchange.new_unexpected f) (λ y. H (arrives (with_fresh w (link.takes l f)) t y))
+      cond_both (exchange.has_t (row_of f)) (at.NewTag n_key) (exchange.new_unexpected f) (λ y. H (arrives (with_fresh w (link.takes l f)) t y))
       (λ c. new_comes w t q (at.NewRow n_key) (at.NewTag n_key) (link.takes l f) h a a.old (read_restored l q.session f (restore_row ∷ restore_tag ∷ ready 73 ∷ []) (restore_tag ∷ ready 73 ∷ []) n (ap (λ (g : Frame). g ∷ restore_tag ∷ ready 73 ∷ []) is)))
       (λ c. new_fails (with_fresh w (link.takes l f)) t q f h a.old.0)
   new_takes w t q (at.NewTag n_key) l f h a n e aw =

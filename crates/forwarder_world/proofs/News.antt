@@ -25,7 +25,7 @@ use Rattle.forwarder_world.specs.World.{World, Mode, Running, Stop, Exchanging, 
 use Rattle.proxy_outside.specs.declared.identity.ClientKey.{ClientKey}
 use Rattle.forwarder_world.proofs.Links.{Gets, sends_next, sends_take, gets_grow, gets_cut}
 use Rattle.forwarder_world.proofs.Keeps.{Parts, View, view, Keeps}
-use Rattle.forwarder_world.proofs.Within.{Face, face, HasBlob, NewAt, AtStage, InMode, Holds, Opening, Waiting, Restored, RestoredSome}
+use Rattle.forwarder_world.proofs.Within.{Face, face, HasBlob, NewAt, AtStage, InMode, Holds, AtStartup, Waiting, Restored, RestoredSome}
 
 -- nothing comes out of nothing
 no_next : (n i : ℕ) (f : Frame) → slice_get (frames (take n [])) i ≡ Some f → ⊥
@@ -67,9 +67,9 @@ module _ {S T C R : Type 0} (k : Kind S C R) (rules : Rules T C R) (kept : S →
   cut_restored : (v : Face S) (n : ℕ) (s : S) (left : List Frame) → RestoredSome v s left → RestoredSome (record v { got = take n v.got; cut = true }) s left
   cut_restored v n s left r = (r.0, r.1, record { sends = r.2.sends; gets = gets_cut n v.got v.cut v.out r.1 left r.2.gets; session_is = r.2.session_is })
 
-  cut_opening : (v : Face S) (n : ℕ) → Opening k p v → Opening k p (record v { got = take n v.got; cut = true })
-  cut_opening v n (inl u) = inl (record { sent_is = u.sent_is; heard_is = u.heard_is; got_is = rw u.got_is (take-nil n); out_is = u.out_is; session_is = u.session_is })
-  cut_opening v n (inr g) = inr (g.0, g.1, record { sent_is = g.2.sent_is; heard_is = g.2.heard_is; whole = g.2.whole; gets = gets_cut n v.got v.cut v.out g.0 g.1 g.2.gets; session_is = g.2.session_is })
+  cut_startup : (v : Face S) (n : ℕ) → AtStartup k p v → AtStartup k p (record v { got = take n v.got; cut = true })
+  cut_startup v n (inl u) = inl (record { sent_is = u.sent_is; heard_is = u.heard_is; got_is = rw u.got_is (take-nil n); out_is = u.out_is; session_is = u.session_is })
+  cut_startup v n (inr g) = inr (g.0, g.1, record { sent_is = g.2.sent_is; heard_is = g.2.heard_is; whole = g.2.whole; gets = gets_cut n v.got v.cut v.out g.0 g.1 g.2.gets; session_is = g.2.session_is })
 
   cut_bears : (s : S) (v : Face S) (n : ℕ) → Bears s v (record v { got = take n v.got; cut = true })
   cut_bears s v n at.AskOld a = a
@@ -78,9 +78,9 @@ module _ {S T C R : Type 0} (k : Kind S C R) (rules : Rules T C R) (kept : S →
   cut_bears s v n (at.OldTag x) a = a
   cut_bears s v n (at.OldReady x) a = a
   cut_bears s v n (at.Dial b token) a = a
-  cut_bears s v n (at.Packet b token) a = cut_opening v n a
-  cut_bears s v n (at.NewAuth b) a = cut_opening v n a
-  cut_bears s v n (at.NewStatus b m n_key) a = cut_opening v n a
+  cut_bears s v n (at.Packet b token) a = cut_startup v n a
+  cut_bears s v n (at.NewAuth b) a = cut_startup v n a
+  cut_bears s v n (at.NewStatus b m n_key) a = cut_startup v n a
   cut_bears s v n (at.Restore b n_key) a = (a.0, record { sent_is = a.1.sent_is; heard_is = a.1.heard_is; whole = a.1.whole; gets = gets_cut n v.got v.cut v.out a.0 [] a.1.gets; session_is = a.1.session_is })
   cut_bears s v n (at.NewColumns n_key) a =
       elim a [
@@ -100,11 +100,11 @@ module _ {S T C R : Type 0} (k : Kind S C R) (rules : Rules T C R) (kept : S →
 
   -- ---- the pod takes the startup packet
 
-  open_opening : (v : Face S) → v.cut ≡ false → v.session ≡ None → Opening k p v → Opening k p (record v { got = v.got ++ render (k.begins p).1; session = Some (k.begins p).0 })
-  open_opening v uncut none (inl u) =
+  open_startup : (v : Face S) → v.cut ≡ false → v.session ≡ None → AtStartup k p v → AtStartup k p (record v { got = v.got ++ render (k.begins p).1; session = Some (k.begins p).0 })
+  open_startup v uncut none (inl u) =
       let gets : Gets v.got v.cut v.out [] [] = rw (u.got_is, u.out_is) (record { begins = ([], refl); whole = λ c. refl; got_good = tt; out_is = refl }) in
       inr ([], (k.begins p).1, record { sent_is = u.sent_is; heard_is = u.heard_is; whole = refl; gets = gets_grow v.got v.cut v.out [] [] (k.begins p).1 uncut (laws.begin_fits p fits).1 gets; session_is = refl })
-  open_opening v uncut none (inr g) = absurd (let e = g.2.session_is in cc)
+  open_startup v uncut none (inr g) = absurd (let e = g.2.session_is in cc)
 
   open_bears : (s : S) (v : Face S) → v.cut ≡ false → v.session ≡ None → Bears s v (record v { got = v.got ++ render (k.begins p).1; session = Some (k.begins p).0 })
   open_bears s v uncut none at.AskOld a = a
@@ -113,9 +113,9 @@ module _ {S T C R : Type 0} (k : Kind S C R) (rules : Rules T C R) (kept : S →
   open_bears s v uncut none (at.OldTag x) a = a
   open_bears s v uncut none (at.OldReady x) a = a
   open_bears s v uncut none (at.Dial b token) a = a
-  open_bears s v uncut none (at.Packet b token) a = open_opening v uncut none a
-  open_bears s v uncut none (at.NewAuth b) a = open_opening v uncut none a
-  open_bears s v uncut none (at.NewStatus b m n_key) a = open_opening v uncut none a
+  open_bears s v uncut none (at.Packet b token) a = open_startup v uncut none a
+  open_bears s v uncut none (at.NewAuth b) a = open_startup v uncut none a
+  open_bears s v uncut none (at.NewStatus b m n_key) a = open_startup v uncut none a
   open_bears s v uncut none (at.Restore b n_key) a = absurd (let e = a.1.session_is in cc)
   open_bears s v uncut none (at.NewColumns n_key) a =
       absurd (elim a [
@@ -170,9 +170,9 @@ module _ {S T C R : Type 0} (k : Kind S C R) (rules : Rules T C R) (kept : S →
   no_restored : (v : Face S) (n : ℕ) (s : S) (left : List Frame) (f : Frame) → RestoredSome v s left → slice_get (frames (take n v.sent)) v.heard ≡ Some f → ⊥
   no_restored v n s left f r e = let g = sends_next n v.sent v.heard (restore_query r.0 ∷ []) [] f r.2.sends e in let h = g.1 in absurd cc
 
-  no_opening : (v : Face S) (n : ℕ) (x : S) (f : Frame) → Opening k p v → v.session ≡ Some x → slice_get (frames (take n v.sent)) v.heard ≡ Some f → ⊥
-  no_opening v n x f (inl u) so e = let g = u.session_is in absurd cc
-  no_opening v n x f (inr g) so e = no_next n v.heard f (subst (λ (t : List ℕ). slice_get (frames (take n t)) v.heard ≡ Some f) g.2.sent_is e)
+  no_startup : (v : Face S) (n : ℕ) (x : S) (f : Frame) → AtStartup k p v → v.session ≡ Some x → slice_get (frames (take n v.sent)) v.heard ≡ Some f → ⊥
+  no_startup v n x f (inl u) so e = let g = u.session_is in absurd cc
+  no_startup v n x f (inr g) so e = no_next n v.heard f (subst (λ (t : List ℕ). slice_get (frames (take n t)) v.heard ≡ Some f) g.2.sent_is e)
 
   hear_stage : (w : World S T C) (h : H w) (l : Link S) (x : S) (f : Frame) (u : TransferKey) (stage : Stage) → w.fresh ≡ Some l → l.cut ≡ false → l.session ≡ Some x → link.next_to_pod l ≡ Some f
       → w.mode ≡ Exchanging u stage → AtStage k p u h.parts w.fresh stage → H (new_hears k rules w l x (Some f))
@@ -182,22 +182,22 @@ module _ {S T C R : Type 0} (k : Kind S C R) (rules : Rules T C R) (kept : S →
   hear_stage w h l x f u (at.OldTag y) e uncut so n mode m = absurd (m.new l e)
   hear_stage w h l x f u (at.OldReady y) e uncut so n mode m = absurd (m.new l e)
   hear_stage w h l x f u (at.Dial b token) e uncut so n mode m = absurd (m.new l e)
-  hear_stage w h l x f u (at.Packet b token) e uncut so n mode m = absurd (no_opening (face l) (l.delivered - length l.opening) x f (m.new l e) so n)
-  hear_stage w h l x f u (at.NewAuth b) e uncut so n mode m = absurd (no_opening (face l) (l.delivered - length l.opening) x f (m.new l e) so n)
-  hear_stage w h l x f u (at.NewStatus b c n_key) e uncut so n mode m = absurd (no_opening (face l) (l.delivered - length l.opening) x f (m.new l e) so n)
+  hear_stage w h l x f u (at.Packet b token) e uncut so n mode m = absurd (no_startup (face l) (l.delivered - length l.startup) x f (m.new l e) so n)
+  hear_stage w h l x f u (at.NewAuth b) e uncut so n mode m = absurd (no_startup (face l) (l.delivered - length l.startup) x f (m.new l e) so n)
+  hear_stage w h l x f u (at.NewStatus b c n_key) e uncut so n mode m = absurd (no_startup (face l) (l.delivered - length l.startup) x f (m.new l e) so n)
   hear_stage w h l x f u (at.Restore b n_key) e uncut so n mode m =
       let g = m.new l e in
-      absurd (no_opening (face l) (l.delivered - length l.opening) x f (inr (g.0, [], g.1)) so n)
+      absurd (no_startup (face l) (l.delivered - length l.startup) x f (inr (g.0, [], g.1)) so n)
   hear_stage w h l x f u (at.NewColumns n_key) e uncut so n mode m =
       elim (m.new l e) [
         | inl g ↦
-            let r = sends_next (l.delivered - length l.opening) l.sent l.taken [] (restore_query g.0 ∷ []) f g.3.sends n in
+            let r = sends_next (l.delivered - length l.startup) l.sent l.taken [] (restore_query g.0 ∷ []) f g.3.sends n in
             restored_now w h l x f u n_key g.0 g.1 r.0 e uncut so mode m g.2 g.3 r.1
-        | inr r ↦ absurd (no_restored (face l) (l.delivered - length l.opening) h.parts.session restore_reply f r n)
+        | inr r ↦ absurd (no_restored (face l) (l.delivered - length l.startup) h.parts.session restore_reply f r n)
       ]
-  hear_stage w h l x f u (at.NewRow n_key) e uncut so n mode m = absurd (no_restored (face l) (l.delivered - length l.opening) h.parts.session _ f (m.new l e) n)
-  hear_stage w h l x f u (at.NewTag n_key) e uncut so n mode m = absurd (no_restored (face l) (l.delivered - length l.opening) h.parts.session _ f (m.new l e) n)
-  hear_stage w h l x f u (at.NewReady n_key) e uncut so n mode m = absurd (no_restored (face l) (l.delivered - length l.opening) h.parts.session _ f (m.new l e) n)
+  hear_stage w h l x f u (at.NewRow n_key) e uncut so n mode m = absurd (no_restored (face l) (l.delivered - length l.startup) h.parts.session _ f (m.new l e) n)
+  hear_stage w h l x f u (at.NewTag n_key) e uncut so n mode m = absurd (no_restored (face l) (l.delivered - length l.startup) h.parts.session _ f (m.new l e) n)
+  hear_stage w h l x f u (at.NewReady n_key) e uncut so n mode m = absurd (no_restored (face l) (l.delivered - length l.startup) h.parts.session _ f (m.new l e) n)
   hear_stage w h l x f u (at.Ended o) e uncut so n mode m = absurd (m.new l e)
 
   hear_mode : (w : World S T C) (h : H w) (l : Link S) (x : S) (f : Frame) (mode : Mode) → is_closed mode ≡ false → w.fresh ≡ Some l → l.cut ≡ false → l.session ≡ Some x → link.next_to_pod l ≡ Some f
@@ -216,7 +216,7 @@ module _ {S T C R : Type 0} (k : Kind S C R) (rules : Rules T C R) (kept : S →
 
   pod_by_holds : (w : World S T C) (h : H w) (l : Link S) (o : Option S) → is_closed w.mode ≡ false → w.fresh ≡ Some l → l.cut ≡ false → l.session ≡ o → H (new_pod_by k rules p w l o)
   pod_by_holds w h l None c e uncut so =
-      cond_both (nat_lt 0 (length l.opening) && not (nat_lt l.delivered (length l.opening))) (record l { got = l.got ++ render (k.begins p).1; session = Some (k.begins p).0 }) l (λ m. H (record w { fresh = Some m }))
+      cond_both (nat_lt 0 (length l.startup) && not (nat_lt l.delivered (length l.startup))) (record l { got = l.got ++ render (k.begins p).1; session = Some (k.begins p).0 }) l (λ m. H (record w { fresh = Some m }))
       (λ b. changes_hold w h l (record l { got = l.got ++ render (k.begins p).1; session = Some (k.begins p).0 }) e (open_bears h.parts.session (face l) uncut so))
       (λ b. same_fresh w h l e)
   pod_by_holds w h l (Some x) c e uncut so = hears_holds w h l x (link.next_to_pod l) c e uncut so refl

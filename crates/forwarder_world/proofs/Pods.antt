@@ -204,7 +204,7 @@ module _ {S T C R : Type 0} (k : Kind S C R) (rules : Rules T C R) (kept : S →
       let q : Parts S = h.parts in
       let both : Some q.session ≡ Some s = sym h.keeps.session_is ∙ so in
       let same : q.session ≡ s = cc in
-      let n = sends_next (w.link.delivered - length w.link.opening) w.link.sent w.link.taken q.told (q.ahead ++ q.own_sent) f h.keeps.sends e in
+      let n = sends_next (w.link.delivered - length w.link.startup) w.link.sent w.link.taken q.told (q.ahead ++ q.own_sent) f h.keeps.sends e in
       subst (λ (x : S). H (if nat_lt w.taken (length w.forwarded) then pod_takes_client k rules w x f else pod_takes_own k rules w x f)) same
       (cond_both (nat_lt w.taken (length w.forwarded)) (pod_takes_client k rules w q.session f) (pod_takes_own k rules w q.session f) (λ v. H v)
       (λ lt. client_holds w h f n.0 open_ uncut n.1 lt)

@@ -90,8 +90,8 @@ pub record Greeting {S C R : Type 0} (k : Kind S C R) (p : List Pair) (v : Face 
   pub gets : Gets v.got v.cut v.out gone owed
   pub session_is : v.session ≡ Some (k.begins p).0
 
-abbrev pub Opening : {S C R : Type 0} → Kind S C R → List Pair → Face S → Type 0
-Opening k p v = Unopened v ⊎ ((gone : List Frame) × (owed : List Frame) × Greeting k p v gone owed)
+abbrev pub AtStartup : {S C R : Type 0} → Kind S C R → List Pair → Face S → Type 0
+AtStartup k p v = Unopened v ⊎ ((gone : List Frame) × (owed : List Frame) × Greeting k p v gone owed)
 
 -- the restore Query is on its way
 pub record Waiting {S C R : Type 0} (k : Kind S C R) (p : List Pair) (v : Face S) (b : List ℕ) (gone : List Frame) : Type 0 where
@@ -115,9 +115,9 @@ NewAt k p s at.OldRow v = ⊥
 NewAt k p s (at.OldTag x) v = ⊥
 NewAt k p s (at.OldReady x) v = ⊥
 NewAt k p s (at.Dial b token) v = ⊥
-NewAt k p s (at.Packet b token) v = Opening k p v
-NewAt k p s (at.NewAuth b) v = Opening k p v
-NewAt k p s (at.NewStatus b n key) v = Opening k p v
+NewAt k p s (at.Packet b token) v = AtStartup k p v
+NewAt k p s (at.NewAuth b) v = AtStartup k p v
+NewAt k p s (at.NewStatus b n key) v = AtStartup k p v
 NewAt k p s (at.Restore b key) v = (gone : List Frame) × Greeting k p v gone []
 NewAt k p s (at.NewColumns key) v = ((b : List ℕ) × (gone : List Frame) × HasBlob k s b × Waiting k p v b gone) ⊎ RestoredSome v s restore_reply
 NewAt k p s (at.NewRow key) v = RestoredSome v s (restore_row ∷ restore_tag ∷ ready 73 ∷ [])

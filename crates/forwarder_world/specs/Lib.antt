@@ -2,4 +2,4 @@ pub mod Link
 pub mod World
 pub mod Headline
 pub mod Turns
-pub mod Opening
+pub mod Startups

@@ -8,7 +8,7 @@ use Rattle.pgw_messages.specs.declared.params.Pair.{Pair}
 use Rattle.session_model.specs.Solo.{told}
 
 pub record Link (S : Type 0) : Type 0 where
-  pub opening : List ℕ  -- the startup packet, as far as it was sent
+  pub startup : List ℕ  -- the startup packet, as far as it was sent
   pub sent : List ℕ  -- all bytes sent behind it
   pub delivered : ℕ  -- how many bytes of both reached the pod
   pub taken : ℕ  -- how many messages behind the startup packet the pod took
@@ -20,12 +20,12 @@ pub record Link (S : Type 0) : Type 0 where
 
 -- a link that was just dialed
 abbrev pub dialed : {S : Type 0} → Link S
-dialed = record { opening = []; sent = []; delivered = 0; taken = 0; got = []; back = 0; out = 0; session = None; cut = false }
+dialed = record { startup = []; sent = []; delivered = 0; taken = 0; got = []; back = 0; out = 0; session = None; cut = false }
 
 -- a link whose pod took the startup packet
 abbrev pub opened : {S C R : Type 0} → Kind S C R → List Pair → List ℕ → Link S
 opened k p packet = record {
-  opening = packet;
+  startup = packet;
   sent = [];
   delivered = length packet;
   taken = 0;
@@ -37,20 +37,20 @@ opened k p packet = record {
 }
 
 abbrev pub opens : {S : Type 0} → Link S → List ℕ → Link S
-opens l b = record l { opening = b }
+opens l b = record l { startup = b }
 
 abbrev pub sends : {S : Type 0} → Link S → Frame → Link S
 sends l f = record l { sent = l.sent ++ frame_bytes f }
 
 abbrev pub delivers : {S : Type 0} → Link S → ℕ → Link S
-delivers l n = record l { delivered = min (length l.opening + length l.sent) (l.delivered + n) }
+delivers l n = record l { delivered = min (length l.startup + length l.sent) (l.delivered + n) }
 
 abbrev pub reads_back : {S : Type 0} → Link S → ℕ → Link S
 reads_back l n = record l { back = min (length l.got) (l.back + n) }
 
 -- the next message that the pod can take
 abbrev pub next_to_pod : {S : Type 0} → Link S → Option Frame
-next_to_pod l = slice_get (frames (take (l.delivered - length l.opening) l.sent)) l.taken
+next_to_pod l = slice_get (frames (take (l.delivered - length l.startup) l.sent)) l.taken
 
 -- the next message that is whole among what was read
 abbrev pub next_of_read : {S : Type 0} → Link S → Option Frame
@@ -95,6 +95,6 @@ hears k rules l s t f = record l {
 -- the pod takes the startup packet
 abbrev pub begins : {S C R : Type 0} → Kind S C R → List Pair → Link S → Link S
 begins k p l =
-    if (nat_lt 0 (length l.opening)) && not (nat_lt l.delivered (length l.opening))
+    if (nat_lt 0 (length l.startup)) && not (nat_lt l.delivered (length l.startup))
     then record l { got = l.got ++ render (k.begins p).1; session = Some (k.begins p).0 }
     else l

@@ -3,6 +3,7 @@ use Rattle.std.specs.Prelude.{ℕ, ◌+◌, ◌-◌, ◌^◌, ◌==◌, nat_lt, 
 use Rattle.pgw_frames.specs.declared.frame.Frame.{Frame}
 use Rattle.pgw_frames.specs.Frames.{frames, frame_bytes, rest, bad}
 use Rattle.proxy_outside.specs.Rules.{Rules}
+use Rattle.pgw_messages.specs.Tags as tag
 use Rattle.pgw_messages.specs.Startup.{startup_packet}
 use Rattle.session_model.specs.Kind.{Kind}
 use Rattle.session_model.specs.Texts.{transfer_query, restore_query}
@@ -150,7 +151,7 @@ hands_out w f = record w { forwarded = w.forwarded ++ f ∷ [] }
 
 -- it is sent to the pod; a Terminate (PostgreSQL manual, Message Flow, Termination) ends the connection
 abbrev pub writes : {S T C : Type 0} → World S T C → Frame → World S T C
-writes w f = record w { written = w.written + 1; link = link.sends w.link f; mode = if f.tag == 88 then Closed Bye else w.mode }
+writes w f = record w { written = w.written + 1; link = link.sends w.link f; mode = if f.tag == tag.terminate then Closed Bye else w.mode }
 
 abbrev pub forwards : {S T C : Type 0} → World S T C → Option Frame → Option ℕ → World S T C
 forwards w (Some f) _ = if w.link.cut then closes (hands_out w f) PodWrite else writes (hands_out w f) f

@@ -7,7 +7,7 @@ ghost use Rattle.session_model.specs.declared.transfer.TransferKey.{TransferKey}
 ghost use Rattle.forwarder_world.specs.World.{World, run, start};
 ghost use Rattle.forwarder_world.specs.Turns.{BeginsSafely, Resumes, EndsByMove, EndsThere, EndsServed};
 ghost use Rattle.forwarder_world.specs.Headline.{Headline};
-ghost use Rattle.forwarder_world.specs.Opening.{Opens};
+ghost use Rattle.forwarder_world.specs.Startups.{Opens};
 ghost use Rattle.forwarder_world.specs.declared.event.Event.{Event};
 ghost use Rattle.proxy_outside.specs.declared.identity.ClientKey.{ClientKey};
 
@@ -33,6 +33,6 @@ pub fn turns<S: Session>()
 
 /// A session at the end of a link began with the parameters that reading the startup packet gives which was sent on
 /// that link, but for a revival token.
-pub fn openings<S: Session>()
+pub fn startups<S: Session>()
     ensures { (key : ClientKey) (p : List Pair) (es : List (Event S.Store.Command)) → Opens p (run S.kind S.Store.rules key p (start S.kind S.Store.rules p) es) }
 {}

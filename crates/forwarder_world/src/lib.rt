@@ -10,4 +10,4 @@ mod laws;
 
 pub use counts::Counts;
 pub use event::{Close, Event, Phase};
-pub use laws::{headline, openings, turns};
+pub use laws::{headline, startups, turns};

@@ -1,6 +1,6 @@
 -- A turn has few events.
-use Rattle.std.proofs.Common.{◌≡◌, ℕ, ◌+◌, ◌*◌, ◌/◌, ◌%◌, ◌≤◌, ◌<◌, ◌^◌, List, [], ◌∷◌, ◌++◌, length, refl, arith}
-use Rattle.std.specs.Prelude.{◌==◌, nat_lt, replicate, codes, if◌then◌else◌}
+use Rattle.std.proofs.Common.{◌≡◌, ℕ, ◌+◌, ◌*◌, ◌%◌, ◌≤◌, ◌<◌, ◌^◌, List, [], ◌∷◌, ◌++◌, length, refl, arith}
+use Rattle.std.specs.Prelude.{◌==◌, nat_lt, replicate}
 use Rattle.std.specs.Fmt.{decimal}
 use Rattle.std.specs.Int.{div_ceil}
 use Rattle.std.proofs.Math.Nat.{div-le_self}
@@ -14,7 +14,7 @@ use Rattle.session_model.specs.declared.transfer.TransferKey.{TransferKey}
 use Rattle.tally_session.specs.declared.store.Nothing.{Nothing}
 use Rattle.forwarder_world.specs.declared.event.Event.{Event}
 use Rattle.forwarder_world.specs.declared.event.Event.TheVariants.{Give, Read, Forward, Deliver, Pod, Back, Pass}
-use Rattle.generated_run.specs.Generated.{queries, syncs, copies, sends, dials, rest, cut, moves, events_by, turn, word, behind, key_of}
+use Rattle.generated_run.specs.Generated.{queries, syncs, copies, sends, dials, rest, cut, moves, events_by, key_of}
 
 few_pieces : (n piece : ℕ) → div_ceil n piece ≤ n + 1
 few_pieces n piece = omega (arith, div-le_self n piece)

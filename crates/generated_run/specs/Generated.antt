@@ -6,6 +6,8 @@ use Rattle.rand_pcg.specs.Lcg.{Lcg, started, increment_of}
 use Rattle.rand_pcg.specs.Pcg.{pcg32, multiplier_64}
 use Rattle.pgw_frames.specs.Frames.{render}
 use Rattle.pgw_frames.specs.declared.frame.Frame.{Frame}
+use Rattle.pgw_messages.specs.Frontend.{front_frame}
+use Rattle.pgw_messages.specs.declared.frontend.message.FrontMsg.TheVariants as front
 use Rattle.session_model.specs.Texts.{query}
 use Rattle.session_model.specs.declared.transfer.TransferKey.{TransferKey}
 use Rattle.tally_session.specs.declared.store.Nothing.{Nothing}
@@ -38,10 +40,10 @@ abbrev pub queries : ℕ → List Frame
 queries i = query (decimal i) ∷ []
 
 abbrev pub syncs : List Frame
-syncs = record { tag = 83; body = [] } ∷ []
+syncs = front_frame front.Sync ∷ []
 
 abbrev pub copies : List Frame
-copies = query (codes "COPY t FROM STDIN") ∷ record { tag = 100; body = 120 ∷ [] } ∷ record { tag = 99; body = [] } ∷ []
+copies = query (codes "COPY t FROM STDIN") ∷ front_frame (front.CopyData (codes "x")) ∷ front_frame front.CopyDone ∷ []
 
 -- The client gives these messages at once; they are read in pieces of so many bytes, forwarded, taken and answered
 -- by so many.
@@ -91,9 +93,9 @@ turns zero g = ([], g)
 turns (suc n) g = let so_far = turns n g in let more = turn n so_far.1 in (so_far.0 ++ more.0, more.1)
 
 -- the greeting is passed on
-abbrev pub opening : List (Event Nothing)
-opening = Back 65535 ∷ Pass ∷ Pass ∷ Pass ∷ []
+abbrev pub first_events : List (Event Nothing)
+first_events = Back 65535 ∷ Pass ∷ Pass ∷ Pass ∷ []
 
 -- the schedule of a number, with so many turns
 abbrev pub generated : ℕ → ℕ → List (Event Nothing)
-generated number n = opening ++ (turns n (words_of number)).0
+generated number n = first_events ++ (turns n (words_of number)).0

@@ -11,7 +11,7 @@ mod sending;
 mod turns;
 mod words;
 
-pub use turns::{opening, turn};
+pub use turns::{first_events, turn};
 pub use words::Words;
 
 #[cfg(test)]

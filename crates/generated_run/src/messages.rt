@@ -7,16 +7,15 @@ ghost use Rattle.session_model.specs.Texts as text;
 ghost use Rattle.generated_run.specs.Generated as generated;
 
 use itoa::Buffer;
-use pgw_frames::{Bytes, Frame, Frames, NoMemory, write_frame};
+use pgw_frames::{Bytes, Frame, Frames, NoMemory, Text, write_frame};
+use pgw_messages::FrontMsg;
 use std::alloc::Global;
 
 /// A Query with this text.
-fn query(alloc: Global, words: &[u8]) -> Result<Frame, NoMemory>
+fn query(alloc: Global, words: &str) -> Result<Frame, NoMemory>
     ensures { IfOk result (λ f. f ≡ text.query words.now) }
 {
-    let mut body = Bytes::of(alloc, words)?;
-    body.extend(b"\0")?;
-    Ok(Frame { tag: b'Q', body })
+    FrontMsg::Query(Text::of(alloc, words)?).into_frame(alloc)
 }
 
 /// A Query with this number.
@@ -24,7 +23,7 @@ pub(crate) fn queries(alloc: Global, number: u32) -> Result<Frames, NoMemory>
     ensures { IfOk result (λ fs. fs ≡ generated.queries number) }
 {
     let mut buffer = Buffer::new();
-    let query = query(alloc, buffer.format(number).as_bytes())?;
+    let query = query(alloc, buffer.format(number))?;
     Ok(Frames::from_vec(vec![in alloc; query]?))
 }
 
@@ -32,10 +31,7 @@ pub(crate) fn queries(alloc: Global, number: u32) -> Result<Frames, NoMemory>
 pub(crate) fn syncs(alloc: Global) -> Result<Frames, NoMemory>
     ensures { IfOk result (λ fs. fs ≡ generated.syncs) }
 {
-    let sync = Frame {
-        tag: b'S',
-        body: Bytes::new(alloc),
-    };
+    let sync = FrontMsg::Sync.into_frame(alloc)?;
     Ok(Frames::from_vec(vec![in alloc; sync]?))
 }
 
@@ -43,15 +39,9 @@ pub(crate) fn syncs(alloc: Global) -> Result<Frames, NoMemory>
 pub(crate) fn copies(alloc: Global) -> Result<Frames, NoMemory>
     ensures { IfOk result (λ fs. fs ≡ generated.copies) }
 {
-    let query = query(alloc, b"COPY t FROM STDIN")?;
-    let data = Frame {
-        tag: b'd',
-        body: Bytes::of(alloc, b"x")?,
-    };
-    let done = Frame {
-        tag: b'c',
-        body: Bytes::new(alloc),
-    };
+    let query = query(alloc, "COPY t FROM STDIN")?;
+    let data = FrontMsg::CopyData(Bytes::of(alloc, b"x")?).into_frame(alloc)?;
+    let done = FrontMsg::CopyDone.into_frame(alloc)?;
     Ok(Frames::from_vec(vec![in alloc; query, data, done]?))
 }
 

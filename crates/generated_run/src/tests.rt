@@ -16,6 +16,6 @@ fn a_transfer_by_reference_words(rt: HostRuntime) -> Result<(), Fail> {
         }
         _ => assert!(rt; false),
     }
-    assert_eq!(rt; opening(rt.alloc())?.len(), 4);
+    assert_eq!(rt; first_events(rt.alloc())?.len(), 4);
     Ok(())
 }

@@ -14,8 +14,8 @@ use std::alloc::Global;
 use tally_session::Nothing;
 
 /// How the greeting is passed on.
-pub fn opening(alloc: Global) -> Result<Vec<Event<Nothing>>, NoMemory>
-    ensures { IfOk result (λ es. es.items ≡ generated.opening) }
+pub fn first_events(alloc: Global) -> Result<Vec<Event<Nothing>>, NoMemory>
+    ensures { IfOk result (λ es. es.items ≡ generated.first_events) }
 {
     Ok(vec![in alloc; Event::Back(65_535), Event::Pass, Event::Pass, Event::Pass]?)
 }

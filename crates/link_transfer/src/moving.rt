@@ -13,8 +13,8 @@ ghost use Rattle.link_transfer.specs.Transfers.{Tries, Goes, Transfers};
 ghost use Rattle.link_transfer.specs.Settling.{IsNewOutcome, IsOldOutcome, new_outcome, old_outcome};
 
 use crate::exchange::{DUE, End, ask, drain, hear_old, meet};
-use pgw_frames::{Frame, Text};
-use pgw_messages::{Params, PodKey};
+use pgw_frames::Text;
+use pgw_messages::{OwnedFields, Params, PodKey};
 use proxy_links::{Dialed, Dialer};
 use proxy_outside::Place;
 use session_model::TransferKey;
@@ -29,8 +29,8 @@ pub enum Transferred<T, R> {
     Moved(T, R, Option<PodKey>),
     /// The old pod says why the session can't be moved now, in a text that isn't empty.
     Refused(Text),
-    /// The new pod answered with this ErrorResponse.
-    RevivalRefused(Frame),
+    /// The new pod answered with an ErrorResponse of these fields.
+    RevivalRefused(OwnedFields),
     /// There is no link to the new pod.
     DialFault,
     /// The new pod was left; its link was hung up.
@@ -44,7 +44,7 @@ pub enum Transferred<T, R> {
 #[derive(Drop)]
 pub(crate) enum NewSettled {
     Moved(Option<PodKey>),
-    Refused(Frame),
+    Refused(OwnedFields),
     Cut(Cut),
 }
 
@@ -62,7 +62,7 @@ fn settle_new(x: Exchange) -> NewSettled
 {
     match x.into_outcome() {
         Some(Outcome::Moved(key)) => NewSettled::Moved(key),
-        Some(Outcome::RevivalRefused(f)) => NewSettled::Refused(f),
+        Some(Outcome::RevivalRefused(fields)) => NewSettled::Refused(fields),
         Some(Outcome::NewCut(c)) => NewSettled::Cut(c),
         Some(Outcome::Refused(_)) => unreachable!(),
         Some(Outcome::DialFault) => unreachable!(),
@@ -111,9 +111,9 @@ fn try_pod<D: Dialer>(
             match meet(alloc, &mut x, &mut tx, &mut rx, patience) {
                 End::Heard => match settle_new(x) {
                     NewSettled::Moved(key) => Transferred::Moved(tx, rx, key),
-                    NewSettled::Refused(f) => {
+                    NewSettled::Refused(fields) => {
                         dialer.hang_up(tx, rx);
-                        Transferred::RevivalRefused(f)
+                        Transferred::RevivalRefused(fields)
                     }
                     NewSettled::Cut(c) => {
                         dialer.hang_up(tx, rx);

@@ -1,4 +1,4 @@
--- A message that is read can be written.
+-- A message that is read has the fields with which it is read again.
 use Rattle.std.proofs.Common.{List, [], ◌∷◌}
 use Rattle.std.specs.List.{AllByRecursion}
 use Rattle.pgw_messages.specs.declared.backend.columns.Column.{Column}

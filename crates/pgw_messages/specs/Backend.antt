@@ -229,7 +229,7 @@ HasBackFields back.NoRows = Unit {0}
 HasBackFields back.Suspended = Unit {0}
 HasBackFields (back.CopyIn m) = length m.formats ≤ 65535
 
--- a message that can be written
+-- a message that is read again from its frame
 pub record CanWriteBack (m : BackMsg) : Type 0 where
   pub room : length (back_body m) ≤ 16777216
   pub fields : HasBackFields m

@@ -180,7 +180,7 @@ HasFrontFields (front.CopyFail t) = HasNoZero t
 HasFrontFields (front.Password b) = Unit {0}
 HasFrontFields front.Terminate = Unit {0}
 
--- a message that can be written
+-- a message that is read again from its frame
 pub record CanWriteFront (m : FrontMsg) : Type 0 where
   pub room : length (front_body m) ≤ 16777216
   pub fields : HasFrontFields m

@@ -20,7 +20,7 @@ BackIsReadAgain = (m : BackMsg) → IsBack m → back_of (back_frame m) ≡ Ok m
 abbrev pub ParamsAreReadAgain : Type 0
 ParamsAreReadAgain = (p : List Pair) → HasDistinctNames p → AllByRecursion IsParam p → (startup_body p ≡ to_be_bytes w32 196608 ++ params_bytes p) × (params_of (params_bytes p) ≡ Ok p)
 
--- a message that is read can be written, where its body is within the limit
+-- a message that is read is read again from its frame, where its body is within the limit
 abbrev pub FrontCanBeWritten : Type 0
 FrontCanBeWritten = (m : FrontMsg) → IsFront m → HasFrontFields m
 

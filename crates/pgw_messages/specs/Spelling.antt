@@ -35,6 +35,10 @@ abbrev pub IsValue : Option (List ℕ) → Type 0
 IsValue None = Unit {0}
 IsValue (Some v) = length v < 2 ^ 31
 
+-- a value that a frame's body has room for
+abbrev pub FitsValue : Option (List ℕ) → Type 0
+FitsValue v = length (value_bytes v) ≤ 16777216
+
 -- items of this kind, as many as a count of 16 bits can say
 pub record IsList {A : Type 0} (Is : A → Type 0) (xs : List A) : Type 0 where
   pub count : length xs ≤ 65535

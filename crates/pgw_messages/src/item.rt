@@ -1,12 +1,12 @@
 //! What can stand in a list of a message.
 
-ghost use Rattle.std.specs.Prelude.{◌≡◌, ◌≤◌, ◌++◌, length, OnOk};
+ghost use Rattle.std.specs.Prelude.{◌≡◌, ◌++◌, OnOk};
 ghost use Rattle.pgw_messages.specs.Reading.{Reads};
 
 use crate::fault::MsgFault;
 use crate::reader::Reader;
 use crate::writer::Writer;
-use pgw_frames::{MOST_BODY, NoMemory};
+use pgw_frames::NoMemory;
 
 /// An item with its layout, both ways.
 pub(crate) trait Item: Drop {
@@ -26,7 +26,6 @@ pub(crate) trait Item: Drop {
         ensures { Reads result r.new (at r.old) };
 
     fn write(&self, w: &mut Writer) -> Result<(), NoMemory>
-        requires { length (bytes self.now) ≤ MOST_BODY }
         ensures bytes { OnOk result (w.new ≡ w.old ++ bytes self.now) }
         ensures good { OnOk result (IsGood self.now) };
 }

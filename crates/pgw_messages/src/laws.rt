@@ -15,7 +15,8 @@ pub fn params_are_read_again()
     ensures { ParamsAreReadAgain }
 {}
 
-/// Says that a message that is read has all that `write_front` and `write_back` ask of its fields.
+/// Says that a message that is read has the fields with which what `write_front` and `write_back` write
+/// is read again.
 pub fn messages_can_be_written()
     ensures front { FrontCanBeWritten }
     ensures back { BackCanBeWritten }

@@ -44,7 +44,7 @@ pub use params::{Pair, Params};
 pub use pod_key::PodKey;
 pub use startup::{read_params, startup_bytes};
 pub use values::Row;
-pub use view::{ColumnView, ColumnsView, FieldsView, RowView};
+pub use view::{ColumnView, ColumnsView, FieldsView, OwnedFields, RowView};
 
 #[cfg(test)]
 mod tests;

@@ -49,7 +49,7 @@ fn write_body(alloc: Global, p: &Params) -> Result<Bytes, NoMemory>
     ensures good { OnOk result (AllByRecursion (λ q. CanWriteParam q → IsParam q) p.now) }
     ensures distinct { OnOk result (HasDistinctNames p.now) }
 {
-    let mut body = Writer::new(alloc);
+    let mut body = Writer::new(alloc)?;
     body.u32(VERSION)?;
     p.write(&mut body)?;
     body.u8(0)?;

@@ -1,7 +1,7 @@
 //! Values of a row, and of the parameters of a statement.
 
 ghost use Rattle.pgw_messages.specs.Reading.{value_at};
-ghost use Rattle.pgw_messages.specs.Spelling.{value_bytes, IsValue};
+ghost use Rattle.pgw_messages.specs.Spelling.{value_bytes, FitsValue, IsValue};
 
 use crate::fault::MsgFault;
 use crate::item::Item;
@@ -18,7 +18,7 @@ impl Item for Option<Bytes> {
 
     ghost bytes = { value_bytes };
 
-    ghost IsGood = { IsValue };
+    ghost IsGood = { λ v. FitsValue v → IsValue v };
 
     fn read(r: &mut Reader<'_>) -> Result<Option<Bytes>, MsgFault> {
         r.value()

@@ -1,15 +1,17 @@
 //! Writing the fields of a message one after the other.
 
-ghost use Rattle.std.specs.Prelude.{◌≡◌, ◌≤◌, [], ◌∷◌, ◌++◌, length, OnOk};
+ghost use Rattle.std.specs.Prelude.{◌≡◌, ◌≤◌, [], ◌∷◌, ◌++◌, length, IfOk, OnOk};
 ghost use Rattle.std.specs.Int.{w16, w32, to_be_bytes};
-ghost use Rattle.std.specs.List.{flat_map};
-ghost use Rattle.pgw_messages.specs.Spelling.{text_bytes, signed_bytes, value_bytes, list_bytes, HasNoZero, IsText, IsValue, IsList};
+ghost use Rattle.pgw_messages.specs.Spelling.{text_bytes, signed_bytes, value_bytes, list_bytes, HasNoZero, FitsValue, IsText, IsValue, IsList};
 
 use crate::item::Item;
 use crate::items::Items;
-use pgw_frames::{Bytes, MOST_BODY, NoMemory, Text};
+use pgw_frames::{Bytes, NoMemory, Text};
 use std::alloc::Global;
 use std::marker::Model;
+
+/// How many bytes there is room for at first: most messages are short.
+const FIRST_ROOM: usize = 32;
 
 /// The bytes that were written so far. Contracts see them as a list.
 #[derive(Drop)]
@@ -25,13 +27,28 @@ impl Model for Writer {
     ghost view = { λ w. w.out };
 }
 
+/// The low 32 bits of a length.
+fn length_field(len: usize) -> u32
+    ensures { to_be_bytes w32 result ≡ to_be_bytes w32 len }
+{
+    (len as u64 & 0xffff_ffff) as u32
+}
+
+/// The low 16 bits of a count.
+fn count_field(count: usize) -> u16
+    ensures { to_be_bytes w16 result ≡ to_be_bytes w16 count }
+{
+    (count as u64 & 0xffff) as u16
+}
+
 impl Writer {
-    pub(crate) fn new(alloc: Global) -> Writer
-        ensures { result ≡ [] }
+    pub(crate) fn new(alloc: Global) -> Result<Writer, NoMemory>
+        ensures { IfOk result (λ w. w ≡ []) }
     {
-        Writer {
-            out: Bytes::new(alloc),
-        }
+        let out = Vec::with_capacity(alloc, FIRST_ROOM)?;
+        Ok(Writer {
+            out: Bytes::from_vec(out),
+        })
     }
 
     pub(crate) fn into_bytes(self) -> Bytes
@@ -87,28 +104,25 @@ impl Writer {
         Ok(())
     }
 
-    /// The length of a value and the value, or -1 for NULL.
+    /// The length of a value, by its low 32 bits, and the value; or -1 for NULL.
     pub(crate) fn value(&mut self, v: &Option<Bytes>) -> Result<(), NoMemory>
-        requires { length (value_bytes v.now) ≤ MOST_BODY }
         ensures bytes { OnOk result (self.new ≡ self.old ++ value_bytes v.now) }
-        ensures good { IsValue v.now }
+        ensures good { FitsValue v.now → IsValue v.now }
     {
         let Some(value) = v else {
             return self.i32(-1);
         };
-        self.u32(value.len() as u32)?;
+        self.u32(length_field(value.len()))?;
         self.bytes(value.as_slice())?;
         Ok(())
     }
 
-    /// The count of a list in 16 bits, and its items.
+    /// The count of a list, by its low 16 bits, and its items.
     pub(crate) fn list<T: Item>(&mut self, items: &Items<T>) -> Result<(), NoMemory>
-        requires count { length items.now ≤ 65535 }
-        requires room { length (flat_map T.bytes items.now) ≤ MOST_BODY }
         ensures bytes { OnOk result (self.new ≡ self.old ++ list_bytes T.bytes items.now) }
-        ensures good { OnOk result (IsList T.IsGood items.now) }
+        ensures good { length items.now ≤ 65535 → OnOk result (IsList T.IsGood items.now) }
     {
-        self.u16(items.len() as u16)?;
+        self.u16(count_field(items.len()))?;
         for item in items.as_slice() {
             item.write(self)?;
         }

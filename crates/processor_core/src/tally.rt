@@ -7,6 +7,7 @@ ghost use Rattle.processor_core.specs.Streams.{handed_by};
 ghost use Rattle.processor_core.specs.Tallies.{request_tally, RepliesAre};
 
 use crate::step::Step;
+use pgw_messages::tags;
 
 /// Of the messages of a client. Counts stop rising at 2^64 - 1.
 #[derive(Clone, Copy, Debug, PartialEq, Eq)]
@@ -43,14 +44,14 @@ pub(crate) struct Replies {
 fn is_ask(tag: u8) -> bool
     ensures { result ≡ is_ask tag }
 {
-    tag == b'Q' || tag == b'S'
+    tag == tags::QUERY || tag == tags::SYNC
 }
 
 /// CopyData, CopyDone or CopyFail.
 fn is_copy(tag: u8) -> bool
     ensures { result ≡ is_copy tag }
 {
-    tag == b'd' || tag == b'c' || tag == b'f'
+    tag == tags::COPY_DATA || tag == tags::COPY_DONE || tag == tags::COPY_FAIL
 }
 
 /// A count with one more, where this is counted.
@@ -118,7 +119,7 @@ impl Replies {
     fn count(&mut self, tag: u8)
         ensures { (handed : List Message) (f : Message) → f.tag ≡ tag → RepliesAre self.old handed → RepliesAre self.new (handed ++ f ∷ []) }
     {
-        self.zs = counted(self.zs, tag == b'Z');
+        self.zs = counted(self.zs, tag == tags::READY_FOR_QUERY);
         self.last = tag;
     }
 

@@ -6,7 +6,7 @@ use Rattle.forwarder_world.specs.World.{World, run, start, phase_of, counts_of}
 use Rattle.forwarder_world.specs.declared.event.Event.{Event}
 use Rattle.forwarder_core.specs.declared.world.World.{World as Real}
 use Rattle.forwarder_core.proofs.Schedules.{run-append}
-use Rattle.generated_run.specs.Generated.{generated, opening, turn, turns, words_of}
+use Rattle.generated_run.specs.Generated.{generated, first_events, turn, turns, words_of}
 use Rattle.tally_session.specs.Tally.{State, tally_kind, tally_rules}
 use Rattle.tally_session.specs.declared.store.Nothing.{Nothing}
 use Rattle.proxy_replay.specs.Client.{client_params, client_key}
@@ -16,7 +16,7 @@ use Rattle.proxy_replay.specs.Generating.{world_of, summary_by, IsAt, IsPlayedTo
 use Rattle.proxy_replay.specs.Summary.{summary_text}
 use Rattle.proxy_replay.specs.declared.generated.Made.{Made}
 
-pub played_none : {M : Type 0} (number : ℕ) (made : Made) (real : Real State M Nothing Nothing) → made.words ≡ words_of number → made.events ≡ 4 → IsAt real (world_of opening) → IsPlayedTo number 0 made real
+pub played_none : {M : Type 0} (number : ℕ) (made : Made) (real : Real State M Nothing Nothing) → made.words ≡ words_of number → made.events ≡ 4 → IsAt real (world_of first_events) → IsPlayedTo number 0 made real
 unfolding turns
 played_none number made real words events world = record { words = words; events = events; few = omega arith; world = world }
 

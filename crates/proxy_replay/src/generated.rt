@@ -7,7 +7,7 @@ use crate::client;
 use crate::generation::Generation;
 use crate::summary::Summary;
 use forwarder_core::World;
-use generated_run::{Words, opening, turn};
+use generated_run::{Words, first_events, turn};
 use pgw_frames::{Bytes, NoMemory};
 use std::alloc::Global;
 use tally_session::TallySession;
@@ -19,12 +19,12 @@ pub(crate) struct Made {
     events: u64,
 }
 
-/// Plays the opening: the greeting is passed on.
+/// Plays the first events: the greeting is passed on.
 fn open(alloc: Global, world: &mut World<TallySession>, number: u64) -> Result<Made, NoMemory>
     ensures few { IfOk result (λ m. m.events ≤ 4) }
     ensures played { IfOk result (λ m. HasBegun world.old → IsPlayedTo number 0 m world.new) }
 {
-    let events = opening(alloc)?;
+    let events = first_events(alloc)?;
     world.run(events.as_slice())?;
     Ok(Made {
         words: Words::of(number),

@@ -3,25 +3,27 @@
 ghost use Rattle.std.specs.Prelude.{◌≡◌, ◌==◌, ◌&&◌, ◌||◌, ℕ, List, length};
 ghost use Rattle.pgw_frames.specs.Frames.{render};
 ghost use Rattle.pgw_frames.specs.declared.frame.Frame.{Frame as Message};
+ghost use Rattle.pgw_messages.specs.Tags.{copy_done, copy_fail};
 ghost use Rattle.session_model.specs.Tags.{is_ask as is_ask_tag};
 ghost use Rattle.session_model.specs.SafePoint.{safe};
 ghost use Rattle.processor_core.specs.Tallies.{request_tally, response_tally};
 ghost use Rattle.safe_point.specs.Counted.{are_safe};
 
+use pgw_messages::tags;
 use processor_core::{RequestTally, ResponseTally};
 
 /// Query or Sync.
 fn is_ask(tag: u8) -> bool
     ensures { result ≡ is_ask_tag tag }
 {
-    tag == b'Q' || tag == b'S'
+    tag == tags::QUERY || tag == tags::SYNC
 }
 
 /// Query, Sync, CopyDone or CopyFail: a client may be at rest behind it.
 fn may_be_last(tag: u8) -> bool
-    ensures { result ≡ (is_ask_tag tag || (tag == 99) || (tag == 102)) }
+    ensures { result ≡ (is_ask_tag tag || (tag == copy_done) || (tag == copy_fail)) }
 {
-    is_ask(tag) || tag == b'c' || tag == b'f'
+    is_ask(tag) || tag == tags::COPY_DONE || tag == tags::COPY_FAIL
 }
 
 fn counts_allow(q: &RequestTally, r: &ResponseTally) -> bool
@@ -30,7 +32,7 @@ fn counts_allow(q: &RequestTally, r: &ResponseTally) -> bool
     may_be_last(q.last)
         && is_ask(q.last_plain)
         && q.qs == r.zs
-        && r.last == b'Z'
+        && r.last == tags::READY_FOR_QUERY
         && q.qs < u64::MAX
         && q.at_boundary
         && r.empty

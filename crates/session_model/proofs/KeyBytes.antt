@@ -1,5 +1,5 @@
 -- The sixteen bytes of a key are those of its two numbers.
-use Rattle.std.proofs.Common.{◌≡◌, ℕ, ◌+◌, ◌*◌, ◌/◌, ◌%◌, ◌^◌, ◌<◌, List, ◌∷◌, ◌++◌, refl, arith}
+use Rattle.std.proofs.Common.{◌≡◌, ℕ, ◌+◌, ◌*◌, ◌/◌, ◌%◌, ◌^◌, ◌<◌, ◌++◌, arith}
 use Rattle.std.specs.Int.{w64, w128, to_be_bytes}
 
 pub halves : (n high low : ℕ) → n ≡ high * 2 ^ 64 + low → high < 2 ^ 64 → low < 2 ^ 64 → to_be_bytes w128 n ≡ to_be_bytes w64 high ++ to_be_bytes w64 low

@@ -1,7 +1,7 @@
 -- How long the parts of a transfer's texts are.
-use Rattle.std.proofs.Common.{◌≡◌, ℕ, zero, suc, ◌+◌, ◌*◌, ◌/◌, ◌%◌, ◌≤◌, List, length, refl, ◌∙◌, arith}
+use Rattle.std.proofs.Common.{◌≡◌, ℕ, ◌+◌, ◌*◌, ◌≤◌, List, length, arith}
 use Rattle.std.specs.Prelude.{replicate}
-use Rattle.std.proofs.lemmas.List.{length-append, length-replicate, length_push}
+use Rattle.std.proofs.lemmas.List.{length-append, length-replicate}
 use Rattle.base64.specs.GeneralPurpose.{encode_of, engine_symbols}
 use Rattle.base64.specs.Engines.{standard}
 use Rattle.base64.specs.Rfc4648.{encode_symbols, padding_len, unpadded_len}

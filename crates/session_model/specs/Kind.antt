@@ -3,6 +3,7 @@ use Rattle.std.specs.Prelude.{◌≡◌, ◌≢◌, ℕ, Bool, List, [], ◌∷�
 use Rattle.pgw_frames.specs.declared.frame.Frame.{Frame}
 use Rattle.proxy_outside.specs.Rules.{Rules, IsAnswer}
 use Rattle.pgw_messages.specs.declared.params.Pair.{Pair}
+use Rattle.pgw_messages.specs.Tags as tag
 use Rattle.session_model.specs.declared.transfer.Dump.{Dump}
 
 pub record Kind (S C R : Type 0) : Type 0 where
@@ -18,8 +19,8 @@ pub record Kind (S C R : Type 0) : Type 0 where
 -- the only ReadyForQuery stands last
 abbrev pub EndsReady : List Frame → Type 0
 EndsReady [] = ⊥
-EndsReady (f ∷ []) = f.tag ≡ 90
-EndsReady (f ∷ g ∷ fs) = (f.tag ≢ 90) × EndsReady (g ∷ fs)
+EndsReady (f ∷ []) = f.tag ≡ tag.ready_for_query
+EndsReady (f ∷ g ∷ fs) = (f.tag ≢ tag.ready_for_query) × EndsReady (g ∷ fs)
 
 -- there is an answer exactly where something is asked, and it is one that the store may give
 abbrev pub Answers : {T C R : Type 0} → Rules T C R → Option C → Option R → Type 0

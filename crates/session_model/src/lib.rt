@@ -17,7 +17,6 @@ mod texts;
 mod transfer;
 
 pub use pod_session::PodSession;
-pub use result_set::{BOOLEAN, ColumnType, TEXT, add_column, complete, ready, row};
 pub use session::Session;
 pub use shared_store::{SharedStore, answer_of};
 pub use solo::Solo;

@@ -4,10 +4,11 @@ ghost use Rattle.std.specs.Prelude.{◌≡◌, string_bytes, IfOk};
 ghost use Rattle.session_model.specs.Texts.{key_digits};
 ghost use Rattle.session_model.specs.Texts as text;
 
-use crate::result_set::{BOOLEAN, TEXT, add_column, complete, ready, row};
+use crate::result_set::{BOOLEAN, TEXT, column, complete, ready, row};
 use crate::transfer::{Dump, TransferKey};
 use base64::engine::general_purpose::STANDARD;
-use pgw_frames::{Bytes, Frame, Frames, NoMemory, Text};
+use pgw_frames::{Frame, Frames, NoMemory, Text};
+use pgw_messages::{BackMsg, Columns};
 use std::alloc::Global;
 
 /// How many bytes a transfer Query's text takes, and a zero byte behind it.
@@ -15,9 +16,6 @@ const TRANSFER_ROOM: usize = 60;
 
 /// How many bytes a restore Query's text takes at most, but for its blob, and a zero byte behind it.
 const RESTORE_ROOM: usize = 66;
-
-/// How many bytes the columns of the reply to a transfer Query take.
-const COLUMNS_ROOM: usize = 143;
 
 /// A key's 32 digits, as a transfer Query and its reply spell them.
 pub fn key_text(alloc: Global, k: &TransferKey) -> Result<String, NoMemory>
@@ -53,16 +51,12 @@ pub fn restore_text(alloc: Global, blob: &[u8]) -> Result<Text, NoMemory>
 fn transfer_columns(alloc: Global) -> Result<Frame, NoMemory>
     ensures { IfOk result (λ f. f ≡ text.transfer_columns) }
 {
-    let mut body = Vec::with_capacity(alloc, COLUMNS_ROOM)?;
-    body.extend_from_slice(b"\0\x04")?;
-    add_column(&mut body, "error", TEXT)?;
-    add_column(&mut body, "session_state_base64", TEXT)?;
-    add_column(&mut body, "session_revival_token_base64", TEXT)?;
-    add_column(&mut body, "transfer_key", TEXT)?;
-    Ok(Frame {
-        tag: b'T',
-        body: Bytes::from_vec(body),
-    })
+    let mut columns = Columns::new(alloc);
+    columns.push(column(alloc, "error", TEXT)?)?;
+    columns.push(column(alloc, "session_state_base64", TEXT)?)?;
+    columns.push(column(alloc, "session_revival_token_base64", TEXT)?)?;
+    columns.push(column(alloc, "transfer_key", TEXT)?)?;
+    BackMsg::Columns(columns).into_frame(alloc)
 }
 
 /// The row of the reply to a transfer Query: what was dumped, and the digits of the key.
@@ -92,7 +86,7 @@ pub fn digits_reply(
 {
     let columns = transfer_columns(alloc)?;
     let row = digits_row(alloc, digits, d, token)?;
-    let tag = complete(alloc, b"SHOW TRANSFER STATE 1\0")?;
+    let tag = complete(alloc, "SHOW TRANSFER STATE 1")?;
     let ready = ready(alloc, status)?;
     Ok(Frames::from_vec(vec![in alloc; columns, row, tag, ready]?))
 }
@@ -116,12 +110,9 @@ pub fn transfer_reply(
 fn restore_columns(alloc: Global) -> Result<Frame, NoMemory>
     ensures { IfOk result (λ f. f ≡ text.restore_columns) }
 {
-    let mut body = Vec::from_slice(alloc, b"\0\x01")?;
-    add_column(&mut body, "crdb_internal.deserialize_session", BOOLEAN)?;
-    Ok(Frame {
-        tag: b'T',
-        body: Bytes::from_vec(body),
-    })
+    let mut columns = Columns::new(alloc);
+    columns.push(column(alloc, "crdb_internal.deserialize_session", BOOLEAN)?)?;
+    BackMsg::Columns(columns).into_frame(alloc)
 }
 
 /// The reply to a restore Query.
@@ -131,7 +122,7 @@ pub fn restore_reply(alloc: Global) -> Result<Frames, NoMemory>
 {
     let columns = restore_columns(alloc)?;
     let row = row(alloc, &[b"t"])?;
-    let tag = complete(alloc, b"SELECT 1\0")?;
+    let tag = complete(alloc, "SELECT 1")?;
     let ready = ready(alloc, b'I')?;
     Ok(Frames::from_vec(vec![in alloc; columns, row, tag, ready]?))
 }

@@ -3,17 +3,26 @@ use std::alloc::Global;
 use std::process::Abort;
 use std::test::*;
 
-/// What is printed of what is read, or the fault.
-fn printed(alloc: Global, sql: &str) -> Result<Result<String, SqlFault>, Fail> {
-    match read_sql(alloc, sql) {
-        Ok(stmt) => Ok(Ok(print_sql(alloc, &stmt)?.into_string())),
-        Err(SqlFault::NoMemory) => Err(pgw_frames::NoMemory.into()),
-        Err(fault) => Ok(Err(fault)),
-    }
+/// Whether it is read, and printed so.
+fn prints(alloc: Global, sql: &str, want: &str) -> Result<bool, SqlFault> {
+    let stmt = read_sql(alloc, sql)?;
+    let printed = print_sql(alloc, &stmt);
+    drop(stmt);
+    Ok(printed?.as_str() == want)
+}
+
+/// Why it is no statement, or that it is one.
+fn fault(alloc: Global, sql: &str) -> Option<SqlFault> {
+    read_sql(alloc, sql).err()
+}
+
+/// How many tokens it has.
+fn token_count(alloc: Global, sql: &str) -> Result<usize, SqlFault> {
+    Ok(tokens(alloc, sql)?.len())
 }
 
 #[test]
-fn statements_as_they_are_printed(rt: HostRuntime) -> Result<(), Fail> {
+fn statements_as_they_are_printed(rt: HostRuntime) {
     let rows = [
         (
             "insert into T values (1,'it''s');",
@@ -76,16 +85,13 @@ fn statements_as_they_are_printed(rt: HostRuntime) -> Result<(), Fail> {
         ),
     ];
     for (sql, text) in rows {
-        let first = printed(rt.alloc(), sql)?;
-        assert_eq!(rt; first.as_ref().map(|t| t.as_str()), Ok(text), "at {sql}");
-        let again = printed(rt.alloc(), text)?;
-        assert_eq!(rt; again.as_ref().map(|t| t.as_str()), Ok(text), "again {sql}");
+        assert_eq!(rt; prints(rt.alloc(), sql, text), Ok(true), "at {sql}");
+        assert_eq!(rt; prints(rt.alloc(), text, text), Ok(true), "again {sql}");
     }
-    Ok(())
 }
 
 #[test]
-fn faults(rt: HostRuntime) -> Result<(), Fail> {
+fn faults(rt: HostRuntime) {
     let rows = [
         ("SELECT 1", SqlFault::BadSyntax(7)),
         ("SELECT", SqlFault::BadSyntax(6)),
@@ -135,27 +141,33 @@ fn faults(rt: HostRuntime) -> Result<(), Fail> {
             SqlFault::BadToken(5),
         ),
     ];
-    for (sql, fault) in rows {
-        let read = printed(rt.alloc(), sql)?;
-        assert_eq!(rt; read.as_ref().map(|t| t.as_str()), Err(&fault), "at {sql}");
+    for (sql, want) in rows {
+        assert_eq!(rt; fault(rt.alloc(), sql), Some(want), "at {sql}");
     }
-    Ok(())
 }
 
-/// The first tokens of a statement, with a space behind each, and whether they are one.
-fn ends_behind(alloc: Global, rt: &impl Abort, cut: &str, is_whole: bool) -> Result<(), Fail> {
-    let read = printed(alloc, cut)?;
-    if is_whole {
-        assert!(rt; read.is_ok(), "at {cut}");
-        return Ok(());
+/// Cuts it behind each space. Only the beginning with so many tokens is a statement, and the whole.
+fn end_behind(rt: &impl Abort, alloc: Global, sql: &str, whole: usize) {
+    let mut count = 0usize;
+    for (place, byte) in sql.bytes().enumerate() {
+        if byte == b' ' {
+            count = count.wrapping_add(1);
+            let cut = sql.get(..=place).unwrap_or("");
+            let end = SqlFault::BadSyntax(u32::try_from(cut.len()).unwrap_or(0));
+            let want = if count == whole { None } else { Some(end) };
+            assert_eq!(rt; fault(alloc, cut), want, "at {cut}");
+        }
     }
-    let fault = SqlFault::BadSyntax(u32::try_from(cut.len()).unwrap_or(0));
-    assert_eq!(rt; read.as_ref().map(|t| t.as_str()), Err(&fault), "at {cut}");
-    Ok(())
+    assert_eq!(rt; fault(alloc, sql), None, "at {sql}");
+    assert_eq!(rt;
+        token_count(alloc, sql),
+        Ok(count.wrapping_add(1)),
+        "at {sql}"
+    );
 }
 
 #[test]
-fn a_form_that_ends_behind_a_token(rt: HostRuntime) -> Result<(), Fail> {
+fn a_form_that_ends_behind_a_token(rt: HostRuntime) {
     // Each form in full. In front of its end no other statement ends but where the row says so.
     let rows = [
         ("CREATE TABLE t ( c INT , d TEXT )", 0),
@@ -177,23 +189,12 @@ fn a_form_that_ends_behind_a_token(rt: HostRuntime) -> Result<(), Fail> {
         ),
     ];
     for (sql, whole) in rows {
-        let tokens = match tokens(rt.alloc(), sql) {
-            Ok(tokens) => tokens,
-            Err(_) => panic!(rt; "at {sql}"),
-        };
-        let mut cut = String::new(rt.alloc());
-        for (before, token) in tokens.as_slice().iter().enumerate() {
-            cut.push_str(token.text.as_str())?;
-            cut.push_str(" ")?;
-            let is_whole = before + 1 == tokens.len() || before + 1 == whole;
-            ends_behind(rt.alloc(), &rt, cut.as_str(), is_whole)?;
-        }
+        end_behind(&rt, rt.alloc(), sql, whole);
     }
-    Ok(())
 }
 
 #[test]
-fn numbers(rt: HostRuntime) -> Result<(), Fail> {
+fn numbers(rt: HostRuntime) {
     let rows = [
         ("0", Some(0)),
         ("-0", Some(0)),
@@ -211,5 +212,4 @@ fn numbers(rt: HostRuntime) -> Result<(), Fail> {
     for (text, number) in rows {
         assert_eq!(rt; read_number(text), number, "at {text}");
     }
-    Ok(())
 }

@@ -16,9 +16,10 @@ use Rattle.pgw_frames.specs.Frames.{IsBytes, IsGood}
 use Rattle.session_model.specs.Kind.{Telling, told_all, WasBegun}
 use Rattle.session_model.specs.Laws.{Laws}
 use Rattle.session_model.specs.Tags.{is_ask, is_copy, one, readies_in, last_tag}
-use Rattle.session_model.specs.Texts.{transfer_query, transfer_reply, digits_reply, restore_query, restore_reply, key_digits, ready, transfer_columns, digits_row, transfer_tag, restore_columns, restore_row, restore_tag, value}
+use Rattle.session_model.specs.Texts.{transfer_query, transfer_reply, digits_reply, restore_query, restore_reply, key_digits, ready, transfer_columns, digits_row, transfer_tag, restore_columns, restore_row, restore_tag, complete}
 use Rattle.pgw_messages.specs.declared.params.Pair.{Pair}
 use Rattle.pgw_messages.specs.Params.{value_of, is_named}
+use Rattle.pgw_messages.specs.Spelling.{value_bytes}
 use Rattle.pgw_messages.specs.Startup.{Fits, pair_bytes, startup_body, startup_packet}
 use Rattle.session_model.specs.declared.transfer.Dump.TheVariants.{Blob, Not}
 use Rattle.session_model.specs.declared.transfer.TransferKey.{TransferKey}
@@ -143,8 +144,8 @@ good_row d token n e le =
     omega (
       arith,
       length-encode-le b,
-      length-append (encode_of standard b) (flat_map value (token ∷ d ∷ [])),
-      length-append token (flat_map value (d ∷ [])),
+      length-append (encode_of standard b) (flat_map value_bytes (Some token ∷ Some d ∷ [])),
+      length-append token (flat_map value_bytes (Some d ∷ [])),
       length-append d [],
     )
 
@@ -156,7 +157,7 @@ good_restore : AllByRecursion IsGood restore_reply
 unfolding restore_columns restore_row restore_tag
 good_restore = (omega arith, (omega arith, (omega arith, (omega arith, tt))))
 
-good_number : (text : List ℕ) (n : ℕ) → length text ≤ 100 → n < 2 ^ 64 → IsGood (record { tag = 67; body = (text ++ decimal n) ++ 0 ∷ [] })
+good_number : (text : List ℕ) (n : ℕ) → length text ≤ 100 → n < 2 ^ 64 → IsGood (complete (text ++ decimal n))
 good_number text n le lt = omega (arith, length-append (text ++ decimal n) (0 ∷ []), length-append text (decimal n), length-decimal-le 20 n (omega arith) (omega arith) lt)
 
 outside_fine : (token : List ℕ) (n : ℕ) (f : Frame) → length token ≤ 11900000 → n < 2 ^ 64 → Fine (outside token n f)

@@ -1,9 +1,9 @@
 -- The texts of a transfer are read as what they were written from. It stands here for the proof of the laws.
-use Rattle.std.proofs.Common.{◌≡◌, ℕ, zero, suc, ◌+◌, ◌-◌, ◌<◌, ◌/◌, ◌%◌, true, false, List, [], ◌∷◌, ◌++◌, length, Some, None, refl, ap, ◌∙◌, arith, append_assoc, inl, inr}
-use Rattle.std.specs.Prelude.{◌==◌, ◌&&◌, Bool, nat_lt, codes, slice_index}
+use Rattle.std.proofs.Common.{◌≡◌, ℕ, zero, suc, ◌-◌, ◌<◌, ◌/◌, ◌%◌, true, List, [], ◌∷◌, ◌++◌, length, Some, None, refl, ap, ◌∙◌, arith, append_assoc, inl, inr}
+use Rattle.std.specs.Prelude.{◌==◌, ◌&&◌, Bool, codes, slice_index}
 use Rattle.std.specs.List.{AllByRecursion}
 use Rattle.std.specs.Str.{bytes_eq}
-use Rattle.std.proofs.lemmas.Bool.{eq-eqb, and_from, and_parts, cases_lt, lt-ltb, le-ltb}
+use Rattle.std.proofs.lemmas.Bool.{eq-eqb, and_from, and_parts, cases_lt}
 use Rattle.std.proofs.lemmas.List.{take_at, drop_at, length-append}
 use Rattle.std.proofs.lemmas.Slice.Eq.{bytes_eq-Decides}
 use Rattle.base64.specs.GeneralPurpose.{encode_of, decode_of}

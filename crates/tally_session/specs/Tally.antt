@@ -6,6 +6,7 @@ use Rattle.pgw_frames.specs.declared.frame.Frame.{Frame}
 use Rattle.proxy_outside.specs.Rules.{Rules}
 use Rattle.pgw_messages.specs.declared.params.Pair.{Pair}
 use Rattle.pgw_messages.specs.Params.{value_of}
+use Rattle.pgw_messages.specs.Tags as tag
 use Rattle.session_model.specs.Kind.{Kind}
 use Rattle.session_model.specs.Texts.{ready, digits_reply, restore_reply}
 use Rattle.session_model.specs.declared.transfer.Dump.{Dump}
@@ -52,21 +53,21 @@ by_transfer token n copy restore None = by_restore n copy restore
 abbrev pub by_query : List ℕ → ℕ → List ℕ → Told
 by_query token n body = by_transfer token n (begins_copy body) (restore_of body) (transfer_of body)
 
--- outside a copy a Query (81) is answered and a Sync (83) gets its ReadyForQuery, and nothing else says anything
+-- outside a copy a Query is answered and a Sync gets its ReadyForQuery, and nothing else says anything
 abbrev pub outside : List ℕ → ℕ → Frame → Told
-outside token n f = if f.tag == 81 then by_query token n f.body else if f.tag == 83 then (idle n, ready idle_status ∷ []) else (idle n, [])
+outside token n f = if f.tag == tag.query then by_query token n f.body else if f.tag == tag.sync then (idle n, ready idle_status ∷ []) else (idle n, [])
 
 abbrev pub with_first : List Frame → Told → Told
 with_first fs r = (r.0, fs ++ r.1)
 
--- In a copy to which c messages came, CopyData (100) is counted, CopyDone (99) and CopyFail (102) end it, and Sync
--- and Flush (72) are ignored. Any other message ends it with an error, and is then taken as outside a copy.
+-- In a copy to which c messages came, CopyData is counted, CopyDone and CopyFail end it, and Sync and Flush are
+-- ignored. Any other message ends it with an error, and is then taken as outside a copy.
 abbrev pub inside : List ℕ → ℕ → ℕ → Frame → Told
 inside token n c f =
-    if f.tag == 100 then (record { count = n; copy = Some ((c + 1) % 2 ^ 64) }, [])
-    else if f.tag == 99 then (idle n, complete_copy c ∷ ready idle_status ∷ [])
-    else if f.tag == 102 then (idle n, copy_failed ∷ ready idle_status ∷ [])
-    else if (f.tag == 83) || (f.tag == 72) then (record { count = n; copy = Some c }, [])
+    if f.tag == tag.copy_data then (record { count = n; copy = Some ((c + 1) % 2 ^ 64) }, [])
+    else if f.tag == tag.copy_done then (idle n, complete_copy c ∷ ready idle_status ∷ [])
+    else if f.tag == tag.copy_fail then (idle n, copy_failed ∷ ready idle_status ∷ [])
+    else if (f.tag == tag.sync) || (f.tag == tag.flush) then (record { count = n; copy = Some c }, [])
     else with_first (copy_ended ∷ ready idle_status ∷ []) (outside token n f)
 
 abbrev pub tells_by : List ℕ → ℕ → Frame → Option ℕ → Told

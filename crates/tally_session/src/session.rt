@@ -9,7 +9,7 @@ use crate::replies::{
 };
 use crate::store::{Nothing, TallyStore};
 use pgw_frames::{Bytes, Frame, Frames, NoMemory, Text};
-use pgw_messages::Params;
+use pgw_messages::{Params, tags};
 use session_model::{Dump, Session, digits_reply, restore_reply};
 use std::alloc::Global;
 use std::marker::Model;
@@ -90,8 +90,8 @@ impl Tally {
     {
         let next = Tally::idle(self.count);
         match f.tag {
-            b'Q' => self.query(alloc, token, f.body.as_slice()),
-            b'S' => Ok((next, only_ready(alloc)?)),
+            tags::QUERY => self.query(alloc, token, f.body.as_slice()),
+            tags::SYNC => Ok((next, only_ready(alloc)?)),
             _ => Ok((next, Frames::new(alloc))),
         }
     }
@@ -107,13 +107,15 @@ impl Tally {
         ensures { IfOk result (λ r. r ≡ inside token.now self.count copied f.now) }
     {
         match f.tag {
-            b'd' => {
+            tags::COPY_DATA => {
                 let next = Tally::copying(self.count, copied.wrapping_add(1));
                 Ok((next, Frames::new(alloc)))
             }
-            b'c' => Ok((Tally::idle(self.count), copy_done(alloc, copied)?)),
-            b'f' => Ok((Tally::idle(self.count), copy_failed(alloc)?)),
-            b'S' | b'H' => Ok((Tally::copying(self.count, copied), Frames::new(alloc))),
+            tags::COPY_DONE => Ok((Tally::idle(self.count), copy_done(alloc, copied)?)),
+            tags::COPY_FAIL => Ok((Tally::idle(self.count), copy_failed(alloc)?)),
+            tags::SYNC | tags::FLUSH => {
+                Ok((Tally::copying(self.count, copied), Frames::new(alloc)))
+            }
             _ => {
                 let (next, replies) = self.outside_copy(alloc, token, f)?;
                 Ok((next, copy_ended(alloc, replies)?))

@@ -1,40 +1,69 @@
 use super::*;
-use pgw_frames::{Bytes, Frame, Frames, MOST_BODY, write_frame};
+use pgw_frames::{Bytes, Frame, Frames, MOST_BODY, NoMemory, write_frame};
 use pgw_messages::Params;
-use session_model::{Dump, Session, Solo, TransferKey, restore_text, transfer_text};
+use session_model::{Dump, Session, Solo};
 use std::alloc::Global;
 use std::process::Abort;
 use std::test::*;
 
-/// The frames as they go out.
-fn wire(rt: &impl Abort, alloc: Global, frames: &Frames) -> Result<Bytes, Fail> {
+/// Whether the frames go out so.
+fn are(alloc: Global, frames: &Frames, want: &[u8]) -> Result<bool, NoMemory> {
     let mut out = Bytes::new(alloc);
     for f in frames.as_slice() {
-        assert!(rt; f.body.len() <= MOST_BODY);
-        write_frame(f, &mut out)?;
+        if f.body.len() <= MOST_BODY {
+            write_frame(f, &mut out)?;
+        }
     }
-    Ok(out)
+    Ok(out.as_slice() == want)
 }
 
-fn message(alloc: Global, tag: u8, body: &[u8]) -> Result<Frame, Fail> {
+fn message(alloc: Global, tag: u8, body: &[u8]) -> Result<Frame, NoMemory> {
     let body = Bytes::of(alloc, body)?;
     Ok(Frame { tag, body })
 }
 
-/// A Query with this text.
-fn query(alloc: Global, text: &str) -> Result<Frame, Fail> {
-    let mut body = Bytes::of(alloc, text.as_bytes())?;
-    body.extend(b"\0")?;
-    Ok(Frame { tag: b'Q', body })
+/// A session with this token.
+fn begun(alloc: Global, token: &str) -> Result<TallySession, NoMemory> {
+    let mut p = Params::new(alloc);
+    p.put("crdb:session_token_base64", token)?;
+    let (s, _) = TallySession::begin(alloc, &p)?;
+    Ok(s)
+}
+
+/// What it replies to a message.
+fn told(alloc: Global, s: &mut TallySession, tag: u8, body: &[u8]) -> Result<Frames, NoMemory> {
+    let f = message(alloc, tag, body)?;
+    s.tell(alloc, &f, None)
+}
+
+/// A message's tag and body, and what is replied, as it goes out.
+type Row<'a> = (u8, &'a [u8], &'a [u8]);
+
+/// Whether it replies so.
+fn replies(alloc: Global, s: &mut TallySession, row: &Row) -> Result<bool, NoMemory> {
+    let (tag, body, want) = *row;
+    let replies = told(alloc, s, tag, body)?;
+    are(alloc, &replies, want)
+}
+
+/// Whether the second frame of what it replies to a Query has this body.
+fn has_row(alloc: Global, s: &mut TallySession, ask: &[u8], row: &[u8]) -> Result<bool, NoMemory> {
+    let replies = told(alloc, s, b'Q', ask)?;
+    Ok(replies.get(1).is_some_and(|f| f.body.as_slice() == row))
 }
 
 #[test]
-fn what_it_replies(rt: HostRuntime) -> Result<(), Fail> {
-    let alloc = rt.alloc();
-    let (mut s, greeting) = TallySession::begin(alloc, &Params::new(alloc))?;
-    let hello = b"R\0\0\0\x08\0\0\0\0K\0\0\0\x0c\0\0\0\0\0\0\0\0Z\0\0\0\x05I";
-    assert_eq!(rt; wire(&rt, alloc, &greeting)?.as_slice(), hello.as_slice());
-    let rows: [(u8, &[u8], &[u8]); 16] = [
+fn how_it_greets(rt: HostRuntime) -> Result<(), NoMemory> {
+    let p = Params::new(rt.alloc());
+    let (_, greeting) = TallySession::begin(rt.alloc(), &p)?;
+    let want = b"R\0\0\0\x08\0\0\0\0K\0\0\0\x0c\0\0\0\0\0\0\0\0Z\0\0\0\x05I";
+    assert_eq!(rt; are(rt.alloc(), &greeting, want), Ok(true));
+    Ok(())
+}
+
+#[test]
+fn what_it_replies(rt: HostRuntime) -> Result<(), NoMemory> {
+    let rows: [Row; 16] = [
         (b'S', b"", b"Z\0\0\0\x05I"),
         (b'Q', b"1\0", b"C\0\0\0\x0cTALLY 1\0Z\0\0\0\x05I"),
         (b'P', b"p\0SELECT 1\0\0\0", b""),
@@ -60,69 +89,97 @@ fn what_it_replies(rt: HostRuntime) -> Result<(), Fail> {
         (b'Q', b"COPY\0t\0", b"C\0\0\0\x0cTALLY 3\0Z\0\0\0\x05I"),
         (b'Q', b"COPY t", b"C\0\0\0\x0cTALLY 4\0Z\0\0\0\x05I"),
     ];
-    for (tag, body, want) in rows {
-        let f = message(alloc, tag, body)?;
-        assert!(rt; s.ask(alloc, &f)?.is_none());
-        let replies = s.tell(alloc, &f, None)?;
+    let mut s = begun(rt.alloc(), "")?;
+    for row in &rows {
+        assert_eq!(rt; replies(rt.alloc(), &mut s, row), Ok(true), "at {row:?}");
+    }
+    Ok(())
+}
+
+/// Whether it is dumped so after a Query.
+fn dumps(
+    alloc: Global,
+    s: &mut TallySession,
+    query: &[u8],
+    want: Result<&[u8], &str>,
+) -> Result<bool, NoMemory> {
+    told(alloc, s, b'Q', query)?;
+    let dump = s.dump(alloc)?;
+    let dumped = match &dump {
+        Dump::Blob(b) => Ok(b.as_slice()),
+        Dump::Not(why) => Err(why.as_str()),
+    };
+    Ok(dumped == want)
+}
+
+#[test]
+fn what_it_dumps(rt: HostRuntime) -> Result<(), NoMemory> {
+    let rows: [(&[u8], Result<&[u8], &str>); 2] = [
+        (b"1\0", Ok(b"\0\0\0\0\0\0\0\x01")),
+        (b"COPY t FROM STDIN\0", Err("session is in a copy")),
+    ];
+    let mut s = begun(rt.alloc(), "")?;
+    for (query, want) in rows {
         assert_eq!(rt;
-            wire(&rt, alloc, &replies)?.as_slice(),
-            want,
-            "at {tag} {body:?}"
+            dumps(rt.alloc(), &mut s, query, want),
+            Ok(true),
+            "after {query:?}"
         );
     }
     Ok(())
 }
 
 #[test]
-fn what_it_dumps(rt: HostRuntime) -> Result<(), Fail> {
-    let alloc = rt.alloc();
-    let (mut s, _) = TallySession::begin(alloc, &Params::new(alloc))?;
-    s.tell(alloc, &query(alloc, "1")?, None)?;
-    match s.dump(alloc)? {
-        Dump::Blob(b) => assert_eq!(rt; b.as_slice(), b"\0\0\0\0\0\0\0\x01".as_slice()),
-        Dump::Not(_) => assert!(rt; false, "it is quiet"),
-    }
-    s.tell(alloc, &query(alloc, "COPY t FROM STDIN")?, None)?;
-    match s.dump(alloc)? {
-        Dump::Blob(_) => assert!(rt; false, "it is in a copy"),
-        Dump::Not(why) => assert_eq!(rt; why.as_str(), "session is in a copy"),
-    }
+fn what_it_moves(rt: HostRuntime) -> Result<(), NoMemory> {
+    let ask = b"SHOW TRANSFER STATE WITH '000102030405060708090a0b0c0d0e0f'\0";
+    let row =
+        b"\0\x04\0\0\0\0\0\0\0\x0cAAAAAAAAAAE=\0\0\0\x04dG9r\0\0\0\x20000102030405060708090a0b0c0d0e0f";
+    let mut s = begun(rt.alloc(), "dG9r")?;
+    let query = (
+        b'Q',
+        b"1\0".as_slice(),
+        b"C\0\0\0\x0cTALLY 1\0Z\0\0\0\x05I".as_slice(),
+    );
+    assert_eq!(rt; replies(rt.alloc(), &mut s, &query), Ok(true));
+    assert_eq!(rt; has_row(rt.alloc(), &mut s, ask, row), Ok(true));
     Ok(())
 }
 
 #[test]
-fn a_move(rt: HostRuntime) -> Result<(), Fail> {
-    let alloc = rt.alloc();
-    let mut p = Params::new(alloc);
-    p.put("crdb:session_token_base64", "dG9r")?;
-    let (mut old, _) = TallySession::begin(alloc, &p)?;
-    old.tell(alloc, &query(alloc, "1")?, None)?;
-    let key = TransferKey {
-        high: 0x0001020304050607,
-        low: 0x08090a0b0c0d0e0f,
-    };
-    let ask = transfer_text(alloc, &key)?;
-    let replies = old.tell(alloc, &query(alloc, ask.as_str())?, None)?;
-    let row = replies.get(1).map(|f| f.body.as_slice()
-        == b"\0\x04\0\0\0\0\0\0\0\x0cAAAAAAAAAAE=\0\0\0\x04dG9r\0\0\0\x20000102030405060708090a0b0c0d0e0f".as_slice());
-    assert_eq!(rt; row, Some(true));
-    let (mut new, _) = TallySession::begin(alloc, &p)?;
-    let give = restore_text(alloc, b"\0\0\0\0\0\0\0\x01")?;
-    let replies = new.tell(alloc, &query(alloc, give.as_str())?, None)?;
-    assert_eq!(rt; replies.len(), 4);
-    let replies = new.tell(alloc, &query(alloc, "2")?, None)?;
-    let want = b"C\0\0\0\x0cTALLY 2\0Z\0\0\0\x05I";
-    assert_eq!(rt; wire(&rt, alloc, &replies)?.as_slice(), want.as_slice());
+fn what_is_restored(rt: HostRuntime) -> Result<(), NoMemory> {
+    let give = b"SELECT crdb_internal.deserialize_session(decode('AAAAAAAAAAE=','base64'))\0";
+    let mut s = begun(rt.alloc(), "")?;
+    assert_eq!(rt;
+        has_row(rt.alloc(), &mut s, give, b"\0\x01\0\0\0\x01t"),
+        Ok(true)
+    );
+    let query = (
+        b'Q',
+        b"2\0".as_slice(),
+        b"C\0\0\0\x0cTALLY 2\0Z\0\0\0\x05I".as_slice(),
+    );
+    assert_eq!(rt; replies(rt.alloc(), &mut s, &query), Ok(true));
     Ok(())
 }
 
+/// Whether the session that is never moved replies so to a message.
+fn alone(alloc: Global, s: &mut Solo<TallySession>, row: &Row) -> Result<bool, NoMemory> {
+    let (tag, body, want) = *row;
+    s.other(&Nothing::Nothing)?;
+    let f = message(alloc, tag, body)?;
+    let replies = s.take(alloc, &f)?;
+    are(alloc, &replies, want)
+}
+
 #[test]
-fn a_session_that_is_never_moved(rt: HostRuntime) -> Result<(), Fail> {
-    let alloc = rt.alloc();
-    let mut solo = Solo::<TallySession>::begin(alloc, &Params::new(alloc))?;
-    solo.other(&Nothing::Nothing)?;
-    let replies = solo.take(alloc, &query(alloc, "1")?)?;
-    let want = b"C\0\0\0\x0cTALLY 1\0Z\0\0\0\x05I";
-    assert_eq!(rt; wire(&rt, alloc, &replies)?.as_slice(), want.as_slice());
+fn a_session_that_is_never_moved(rt: HostRuntime) -> Result<(), NoMemory> {
+    let p = Params::new(rt.alloc());
+    let mut s = Solo::begin(rt.alloc(), &p)?;
+    let query = (
+        b'Q',
+        b"1\0".as_slice(),
+        b"C\0\0\0\x0cTALLY 1\0Z\0\0\0\x05I".as_slice(),
+    );
+    assert_eq!(rt; alone(rt.alloc(), &mut s, &query), Ok(true));
     Ok(())
 }

@@ -1,25 +1,33 @@
 -- The startup packet with a revival token, and its length.
 use Rattle.std.proofs.Common.{◌≡◌, ℕ, suc, ◌+◌, ◌<◌, Bool, true, false, List, [], ◌∷◌, ◌++◌, length, get_or, drop, flat_map, Option, Some, None, refl, sym, ap, ◌∙◌, arith, append-nil}
-use Rattle.std.specs.Prelude.{nat_lt, not, MatchOption}
+use Rattle.std.specs.Prelude.{nat_lt, not, codes, if◌then◌else◌, MatchOption}
 use Rattle.std.specs.Int.{w32, to_be_bytes}
 use Rattle.std.specs.Option.{is_some}
 use Rattle.std.proofs.lemmas.Bool.{lt-ltb, le-ltb, ltb-true, ltb-false}
 use Rattle.std.proofs.lemmas.Grind.{flat_map-append}
 use Rattle.std.proofs.lemmas.List.{length-append}
 use Rattle.std.proofs.Math.Seq.{drop-cons}
-use Rattle.pgw_messages.specs.Startup.{pair_bytes, startup_body, startup_packet}
+use Rattle.pgw_messages.specs.Params.{value_of, with_value, is_named}
+use Rattle.pgw_messages.specs.Startup.{pair_bytes, startup_packet}
 use Rattle.pgw_messages.specs.declared.params.Pair.{Pair}
-use Rattle.transfer_stages.specs.Exchange.{packet}
-use Rattle.transfer_exchange.specs.Packets.{with_token, fits_behind}
+use Rattle.transfer_stages.specs.Exchange.{packet, with_token}
+use Rattle.transfer_exchange.specs.Packets.{fits_behind}
 
--- ---- its bytes
+-- ---- a name that isn't there
 
-pub body_made : (p : List Pair) (q : Pair) (named added ended : List ℕ) → named ≡ to_be_bytes w32 196608 ++ flat_map pair_bytes p → added ≡ named ++ pair_bytes q → ended ≡ added ++ 0 ∷ []
-    → ended ≡ startup_body (p ++ q ∷ [])
-body_made p q named added ended e f g =
-    let pairs : List ℕ = flat_map pair_bytes p in
-    let one : pair_bytes q ++ [] ≡ pair_bytes q = append-nil (pair_bytes q) in
-    rw (g, f, e, flat_map-append pair_bytes p (q ∷ []), one) refl
+put_by : (name value : List ℕ) (q : Pair) (p : List Pair) (t : Bool) → is_named name q ≡ t → (if t then Some q.value else value_of name p) ≡ None → (value_of name p ≡ None → with_value name value p ≡ p ++ record { name = name; value = value } ∷ [])
+    → with_value name value (q ∷ p) ≡ q ∷ p ++ record { name = name; value = value } ∷ []
+put_by name value q p true is e more = absurd cc
+put_by name value q p false is e more = rw is (ap (λ (ps : List Pair). q ∷ ps) (more e))
+
+put_last : (name value : List ℕ) (p : List Pair) → value_of name p ≡ None → with_value name value p ≡ p ++ record { name = name; value = value } ∷ []
+put_last name value [] e = refl
+put_last name value (q ∷ p) e = put_by name value q p (is_named name q) refl e (put_last name value p)
+
+-- these parameters, and the token put to them
+pub packet_put : (p old new : List Pair) (token : List ℕ) → old ≡ p → new ≡ with_value (codes "crdb:session_revival_token_base64") token old → value_of (codes "crdb:session_revival_token_base64") p ≡ None → startup_packet new ≡ packet p token
+unfolding packet
+packet_put p old new token same put e = ap startup_packet (put ∙ ap (with_value (codes "crdb:session_revival_token_base64") token) same ∙ put_last (codes "crdb:session_revival_token_base64") token p e)
 
 -- ---- its length
 

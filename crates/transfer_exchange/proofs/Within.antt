@@ -1,6 +1,6 @@
 -- What is taken over stays within its limits, stage by stage.
 use Rattle.std.proofs.Common.{◌≡◌, ℕ, ◌+◌, Bool, true, false, List, [], ◌∷◌, length, Option, Some, None, refl}
-use Rattle.std.specs.Prelude.{◌==◌, nat_lt, not, ◌&&◌, if◌then◌else◌, codes}
+use Rattle.std.specs.Prelude.{◌==◌, nat_lt, not, ◌&&◌, is_some, if◌then◌else◌, codes}
 use Rattle.std.specs.declared.result.Result.{Result}
 use Rattle.std.specs.declared.result.Result.TheVariants.{Ok, Err}
 use Rattle.std.specs.Str.{is_utf8}
@@ -12,8 +12,8 @@ use Rattle.pgw_frames.specs.declared.frame.Frame.{Frame}
 use Rattle.pgw_messages.specs.declared.params.Pair.{Pair}
 use Rattle.pgw_messages.specs.declared.pod_key.PodKey.{PodKey}
 use Rattle.session_model.specs.declared.transfer.TransferKey.{TransferKey}
-use Rattle.transfer_stages.specs.Exchange.{packet, takes, said, given, without_error, by_error, has_key, is_base64, is_ready, is_ready_idle, is_tag, is_auth_ok, has_t, transfer_names, old_unexpected, new_unexpected, row_said, old_ends, pod_key, keeps_key, greets}
-use Rattle.transfer_stages.specs.Rows.{is_columns, row_of}
+use Rattle.transfer_stages.specs.Exchange.{packet, takes, said, given, without_error, by_error, has_key, is_base64, is_ready, is_ready_idle, is_tag, is_auth_ok, has_t, transfer_names, old_unexpected, new_unexpected, row_said, old_ends, keeps_key, greets}
+use Rattle.transfer_stages.specs.Rows.{has_names, has_one_column, key_of, row_of}
 use Rattle.transfer_stages.specs.declared.stage.Said.{Said}
 use Rattle.transfer_stages.specs.declared.stage.Said.TheVariants.{Given, Refuses}
 use Rattle.transfer_stages.specs.declared.stage.Stage.{Stage}
@@ -86,7 +86,7 @@ ends_hold p f (Refuses reason) h = chosen p (is_ready f) (at.Ended _) (old_unexp
 
 key_holds : (p : List Pair) (state : List ℕ) (n : ℕ) (f : Frame) (key : Option PodKey) → HoldsState state → IsWithin p (keeps_key state n f key)
 key_holds p state n f (Some key) h = tt
-key_holds p state n f None h = chosen p (length f.body == 8) (at.NewStatus state n (Some (pod_key f))) (new_unexpected f) h tt
+key_holds p state n f None h = chosen p (is_some (key_of f)) (at.NewStatus state n (key_of f)) (new_unexpected f) h tt
 
 greets_hold : (p : List Pair) (state : List ℕ) (n : ℕ) (key : Option PodKey) (f : Frame) → HoldsState state → IsWithin p (greets state n key f)
 greets_hold p state n key f h =
@@ -96,14 +96,14 @@ greets_hold p state n key f h =
 
 pub takes_within : (t : TransferKey) (p : List Pair) (x : Stage) (f : Frame) → IsWithin p x → IsWithin p (takes t p x f)
 unfolding takes
-takes_within t p at.OldColumns f h = chosen p (is_columns transfer_names f) at.OldRow (old_unexpected f) tt tt
-takes_within t p at.OldRow f h = row_holds p f (said t p (row_of 4 f)) (said_holds t p (row_of 4 f))
+takes_within t p at.OldColumns f h = chosen p (has_names transfer_names f) at.OldRow (old_unexpected f) tt tt
+takes_within t p at.OldRow f h = row_holds p f (said t p (row_of f)) (said_holds t p (row_of f))
 takes_within t p (at.OldTag s) f h = chosen p (is_tag (codes "SHOW TRANSFER STATE 1") f) (at.OldReady s) (old_unexpected f) h tt
 takes_within t p (at.OldReady s) f h = ends_hold p f s h
 takes_within t p (at.NewAuth state) f h = chosen p (is_auth_ok f) (at.NewStatus state 0 None) (new_unexpected f) h tt
 takes_within t p (at.NewStatus state n key) f h = greets_hold p state n key f h
-takes_within t p (at.NewColumns key) f h = chosen p (is_columns (codes "crdb_internal.deserialize_session" ∷ []) f) (at.NewRow key) (new_unexpected f) tt tt
-takes_within t p (at.NewRow key) f h = chosen p (has_t (row_of 1 f)) (at.NewTag key) (new_unexpected f) tt tt
+takes_within t p (at.NewColumns key) f h = chosen p (has_one_column f) (at.NewRow key) (new_unexpected f) tt tt
+takes_within t p (at.NewRow key) f h = chosen p (has_t (row_of f)) (at.NewTag key) (new_unexpected f) tt tt
 takes_within t p (at.NewTag key) f h = chosen p (is_tag (codes "SELECT 1") f) (at.NewReady key) (new_unexpected f) tt tt
 takes_within t p (at.NewReady key) f h = chosen p (is_ready_idle f) (at.Ended _) (new_unexpected f) tt tt
 takes_within t p at.AskOld f h = h

@@ -9,7 +9,7 @@ ghost use Rattle.transfer_stages.specs.Rows.{row_of};
 ghost use Rattle.transfer_exchange.specs.Course.{key_of, params_of, stage_of, goes, IsSending, IsAwaiting, IsDialing, IsLinked, text_at, sent_at, dialed_at, cut_at, is_packet};
 
 use crate::said::said;
-use crate::stages::{behind_cut, behind_dial, behind_frame, behind_text, is_opening_at, want_at};
+use crate::stages::{after_cut, after_dial, after_frame, after_text, is_startup_at, want_at};
 use crate::texts::{packet, query};
 use pgw_frames::{Bytes, Frame, NoMemory};
 use pgw_messages::Params;
@@ -37,13 +37,15 @@ pub struct Exchange {
 }
 
 impl Model for Exchange {
+    ghost use Rattle.std.specs.Prelude.{◌≡◌, None, codes};
+    ghost use Rattle.pgw_messages.specs.Params.{value_of};
     ghost use Rattle.transfer_exchange.specs.Course.{Course, IsWithin};
 
     ghost Value = { Course };
 
     ghost view = { λ e. record { key = e.key; params = e.params; stage = e.stage } };
 
-    ghost invariant = { λ e. IsWithin e.params e.stage };
+    ghost invariant = { λ e. IsWithin e.params e.stage × (value_of (codes "crdb:session_revival_token_base64") e.params ≡ None) };
 }
 
 /// What the frame says as the old pod's row, where that is awaited.
@@ -54,7 +56,7 @@ fn said_at(
     stage: &Stage,
     f: &Frame,
 ) -> Result<Option<Said>, NoMemory>
-    ensures ok { IfOk result (λ s. stage.now ≡ Stage.OldRow → s ≡ expected.said key.now params.now (row_of 4 f.now)) }
+    ensures ok { IfOk result (λ s. stage.now ≡ Stage.OldRow → s ≡ expected.said key.now params.now (row_of f.now)) }
     ensures no_memory { OnErr result (stage.now ≡ Stage.OldRow) }
 {
     match stage {
@@ -110,7 +112,7 @@ impl Exchange {
     {
         match &self.stage {
             Stage::AskOld => query(self.alloc, transfer_text(self.alloc, &self.key)?),
-            Stage::Packet(_, token) => packet(self.alloc, &self.params, token.as_slice()),
+            Stage::Packet(_, token) => packet(self.alloc, &self.params, token.as_str()),
             Stage::Restore(state, _) => {
                 query(self.alloc, restore_text(self.alloc, state.as_slice())?)
             }
@@ -130,10 +132,10 @@ impl Exchange {
     }
 
     /// Whether what is to be sent is the startup packet.
-    pub fn is_opening(&self) -> bool
+    pub fn is_startup(&self) -> bool
         ensures { result ≡ is_packet (stage_of self.now) }
     {
-        is_opening_at(&self.stage)
+        is_startup_at(&self.stage)
     }
 
     /// The bytes of `text` were sent whole.
@@ -142,7 +144,7 @@ impl Exchange {
         ensures { self.new ≡ goes self.old (sent_at (stage_of self.old)) }
     {
         let stage = mem::replace(&mut self.stage, Stage::AskOld);
-        put(&mut self.stage, behind_text(stage));
+        put(&mut self.stage, after_text(stage));
     }
 
     /// The new pod was dialed, and `ok` says whether there is a link to it.
@@ -151,7 +153,7 @@ impl Exchange {
         ensures { self.new ≡ goes self.old (dialed_at ok (stage_of self.old)) }
     {
         let stage = mem::replace(&mut self.stage, Stage::AskOld);
-        put(&mut self.stage, behind_dial(stage, ok));
+        put(&mut self.stage, after_dial(stage, ok));
     }
 
     /// A frame came from the pod that is awaited. Only the old pod's row takes memory. An `Err` changes
@@ -164,7 +166,7 @@ impl Exchange {
     {
         let said = said_at(self.alloc, &self.key, &self.params, &self.stage, &f)?;
         let stage = mem::replace(&mut self.stage, Stage::AskOld);
-        put(&mut self.stage, behind_frame(stage, said, f));
+        put(&mut self.stage, after_frame(stage, said, f));
         Ok(())
     }
 
@@ -174,7 +176,7 @@ impl Exchange {
         ensures { self.new ≡ goes self.old (cut_at c (stage_of self.old)) }
     {
         let stage = mem::replace(&mut self.stage, Stage::AskOld);
-        put(&mut self.stage, behind_cut(stage, c));
+        put(&mut self.stage, after_cut(stage, c));
     }
 
     /// What it came to, once it has ended.

@@ -9,7 +9,6 @@
 
 mod columns;
 mod exchange;
-mod fault;
 mod messages;
 mod new_pod;
 mod old_pod;

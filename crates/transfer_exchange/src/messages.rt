@@ -1,13 +1,15 @@
-//! Messages whose body is given, and counts at the front of a body.
+//! Messages of which one field is looked at.
 
-ghost use Rattle.std.specs.Prelude.{◌≡◌, ◌<◌, ◌==◌, ◌&&◌, ◌⊎◌, true, false, length, drop, MatchOption, if◌then◌else◌};
-ghost use Rattle.std.specs.Int.{w32, from_be_bytes};
+ghost use Rattle.std.specs.Prelude.{◌≡◌, ◌==◌, ◌&&◌};
+ghost use Rattle.std.specs.Result.{result_ok};
 ghost use Rattle.std.specs.Str.{bytes_eq};
+ghost use Rattle.pgw_messages.specs.Backend.{auth_at};
+ghost use Rattle.pgw_messages.specs.Reading.{whole};
 ghost use Rattle.transfer_stages.specs.Exchange as expected;
-ghost use Rattle.transfer_stages.specs.Rows.{counts};
+ghost use Rattle.transfer_stages.specs.Rows.{key_of};
 
 use pgw_frames::Frame;
-use pgw_messages::PodKey;
+use pgw_messages::{PodKey, tags};
 
 /// Whether it is the message of this type with this body.
 pub(crate) fn is_message(f: &Frame, tag: u8, body: &[u8]) -> bool
@@ -20,46 +22,43 @@ pub(crate) fn is_message(f: &Frame, tag: u8, body: &[u8]) -> bool
 pub(crate) fn is_ready_idle(f: &Frame) -> bool
     ensures { result ≡ expected.is_ready_idle f.now }
 {
-    is_message(f, b'Z', b"I")
+    is_message(f, tags::READY_FOR_QUERY, b"I")
 }
 
 /// A ReadyForQuery with one of its three bodies.
 pub(crate) fn is_ready(f: &Frame) -> bool
     ensures { result ≡ expected.is_ready f.now }
 {
-    is_ready_idle(f) || is_message(f, b'Z', b"T") || is_message(f, b'Z', b"E")
+    is_ready_idle(f)
+        || is_message(f, tags::READY_FOR_QUERY, b"T")
+        || is_message(f, tags::READY_FOR_QUERY, b"E")
 }
 
-/// The bytes behind the count, where the message is of this type and has this count.
-pub(crate) fn counted(f: &Frame, tag: u8, count: u16) -> Option<&[u8]>
-    ensures { MatchOption result ((counts tag count f.now ≡ false) ⊎ (length f.now.body < 2)) (λ b. (counts tag count f.now ≡ true) × (b.now ≡ drop 2 f.now.body)) }
+/// Whether an authentication message with this body asks for nothing.
+fn asks_nothing(body: &[u8]) -> bool
+    ensures { result ≡ expected.has_code_0 (result_ok (whole (auth_at body.now))) }
 {
-    let (word, rest) = f.body.as_slice().split_first_chunk::<2>()?;
-    if f.tag == tag && u16::from_be_bytes(*word) == count {
-        return Some(rest);
+    match body.split_first_chunk::<4>() {
+        Some((code, _)) => u32::from_be_bytes(*code) == 0,
+        None => false,
     }
-    None
 }
 
-/// The number that these four bytes are.
-fn number(b: &[u8]) -> u32
-    requires { length b.now ≡ 4 }
-    ensures { result ≡ from_be_bytes w32 b.now }
+/// An AuthenticationOk. What stands behind its code doesn't matter.
+#[tactic(auto, unfolding(transfer_stages::specs::Exchange::is_auth_ok, transfer_stages::specs::Rows::auth_of))]
+pub(crate) fn is_auth_ok(f: &Frame) -> bool
+    ensures { result ≡ expected.is_auth_ok f.now }
 {
-    u32::from_be_bytes([b[0], b[1], b[2], b[3]])
+    f.tag == tags::AUTHENTICATION && asks_nothing(f.body.as_slice())
 }
 
-/// The key in a BackendKeyData of eight bytes.
+/// The key in a BackendKeyData.
+#[tactic(auto, unfolding(transfer_stages::specs::Rows::key_of))]
 pub(crate) fn pod_key(f: &Frame) -> Option<PodKey>
-    ensures { result ≡ (if length f.now.body == 8 then Some (expected.pod_key f.now) else None) }
+    ensures { result ≡ key_of f.now }
 {
-    let body = f.body.as_slice();
-    if body.len() != 8 {
+    if f.tag != tags::BACKEND_KEY_DATA {
         return None;
     }
-    let (process, secret) = body.split_at(4);
-    Some(PodKey {
-        process: number(process),
-        secret: number(secret),
-    })
+    PodKey::of(f.body.as_slice())
 }

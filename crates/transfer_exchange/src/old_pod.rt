@@ -5,9 +5,10 @@ ghost use Rattle.pgw_messages.specs.declared.params.Pair.{Pair as Param};
 ghost use Rattle.session_model.specs.declared.transfer.TransferKey.{TransferKey as Key};
 ghost use Rattle.transfer_stages.specs.Exchange as expected;
 
-use crate::columns::is_columns;
+use crate::columns::has_names;
 use crate::messages::{is_message, is_ready, is_ready_idle};
 use pgw_frames::Frame;
+use pgw_messages::tags;
 use transfer_stages::{Cut, Outcome, Said, Stage};
 
 /// Ends the transfer at a frame that isn't expected here.
@@ -18,7 +19,7 @@ fn unexpected(f: Frame) -> Stage
 }
 
 #[tactic(auto, unfolding(transfer_stages::specs::Exchange::takes))]
-pub(crate) fn behind_columns(f: Frame) -> Stage
+pub(crate) fn after_columns(f: Frame) -> Stage
     ensures { (t : Key) (p : List Param) → result ≡ expected.takes t p Stage.OldColumns f }
 {
     let names = [
@@ -27,14 +28,14 @@ pub(crate) fn behind_columns(f: Frame) -> Stage
         "session_revival_token_base64",
         "transfer_key",
     ];
-    if is_columns(&names, &f) {
+    if has_names(&names, &f) {
         return Stage::OldRow;
     }
     unexpected(f)
 }
 
 /// What the row says is known, where it can be taken.
-pub(crate) fn behind_row(said: Option<Said>, f: Frame) -> Stage
+pub(crate) fn after_row(said: Option<Said>, f: Frame) -> Stage
     ensures { result ≡ expected.row_said f said }
 {
     match said {
@@ -44,10 +45,10 @@ pub(crate) fn behind_row(said: Option<Said>, f: Frame) -> Stage
 }
 
 #[tactic(auto, unfolding(transfer_stages::specs::Exchange::takes))]
-pub(crate) fn behind_tag(said: Said, f: Frame) -> Stage
+pub(crate) fn after_tag(said: Said, f: Frame) -> Stage
     ensures { (t : Key) (p : List Param) → result ≡ expected.takes t p (Stage.OldTag said) f }
 {
-    if is_message(&f, b'C', b"SHOW TRANSFER STATE 1\0") {
+    if is_message(&f, tags::COMMAND_COMPLETE, b"SHOW TRANSFER STATE 1\0") {
         return Stage::OldReady(said);
     }
     unexpected(f)
@@ -55,7 +56,7 @@ pub(crate) fn behind_tag(said: Said, f: Frame) -> Stage
 
 /// Only a session outside a transaction may be moved.
 #[tactic(auto, unfolding(transfer_stages::specs::Exchange::takes))]
-pub(crate) fn behind_ready(said: Said, f: Frame) -> Stage
+pub(crate) fn after_ready(said: Said, f: Frame) -> Stage
     ensures { (t : Key) (p : List Param) → result ≡ expected.takes t p (Stage.OldReady said) f }
 {
     match said {

@@ -1,12 +1,14 @@
-//! The values of a DataRow (PostgreSQL manual, Message Formats).
+//! The values of a reply's row.
 
-ghost use Rattle.std.specs.Prelude.{◌≡◌, ◌<◌, ℕ, suc, [], ◌∷◌, option_map, MatchOption};
+ghost use Rattle.std.specs.Prelude.{◌≡◌, List, [], ◌∷◌, Some, None, MatchOption};
 ghost use Rattle.std.specs.Option.{option_copied};
-ghost use Rattle.transfer_stages.specs.Rows.{values, row_of};
-ghost use Rattle.transfer_stages.specs.Exchange.{has_t};
+ghost use Rattle.pgw_messages.specs.declared.params.Pair.{Pair};
+ghost use Rattle.session_model.specs.declared.transfer.TransferKey.{TransferKey};
+ghost use Rattle.transfer_stages.specs.Exchange.{said, has_t};
+ghost use Rattle.transfer_stages.specs.Rows as rows;
 
-use crate::messages::counted;
 use pgw_frames::Frame;
+use pgw_messages::{RowView, tags};
 
 /// The four values of the old pod's row. A `None` is NULL.
 #[derive(Clone, Copy)]
@@ -17,41 +19,26 @@ pub(crate) struct OldRow<'a> {
     pub key: Option<&'a [u8]>,
 }
 
-/// The length that stands for NULL.
-const NULL: u32 = 0xffff_ffff;
-
-/// The first value, and the bytes behind it.
-fn value(b: &[u8]) -> Option<(Option<&[u8]>, &[u8])>
-    ensures { MatchOption result ((n : ℕ) → values (suc n) b.now ≡ None) (λ r. (n : ℕ) → values (suc n) b.now ≡ option_map (λ vs. option_copied r.0 ∷ vs) (values n r.1.now)) }
-{
-    let (word, rest) = b.split_first_chunk::<4>()?;
-    let len = u32::from_be_bytes(*word);
-    if len == NULL {
-        return Some((None, rest));
-    }
-    let (v, rest) = rest.split_at_checked(len as usize)?;
-    Some((Some(v), rest))
-}
-
-/// The bytes of the values, where it is a row of so many.
+/// The values of a DataRow.
 #[tactic(auto, unfolding(transfer_stages::specs::Rows::row_of))]
-fn values_of(f: &Frame, count: u16) -> Option<&[u8]>
-    requires { 0 < count }
-    ensures { MatchOption result (row_of count f.now ≡ None) (λ b. row_of count f.now ≡ values count b.now) }
+fn row_of(f: &Frame) -> Option<RowView<'_>>
+    ensures { result ≡ rows.row_of f.now }
 {
-    counted(f, b'D', count)
+    if f.tag != tags::DATA_ROW {
+        return None;
+    }
+    RowView::of(f.body.as_slice())
 }
 
-/// The values of a row of four.
-pub(crate) fn old_row(f: &Frame) -> Option<OldRow<'_>>
-    ensures { MatchOption result (row_of 4 f.now ≡ None) (λ r. row_of 4 f.now ≡ Some (option_copied r.error ∷ option_copied r.state ∷ option_copied r.token ∷ option_copied r.key ∷ [])) }
+/// The values of a row of four. A row of fewer or more says nothing.
+fn four_values<'a>(row: RowView<'a>) -> Option<OldRow<'a>>
+    ensures { MatchOption result ((t : TransferKey) (p : List Pair) → said t p (Some row.entry) ≡ None) (λ r. row.entry ≡ option_copied r.error ∷ option_copied r.state ∷ option_copied r.token ∷ option_copied r.key ∷ []) }
 {
-    let b = values_of(f, 4)?;
-    let (error, b) = value(b)?;
-    let (state, b) = value(b)?;
-    let (token, b) = value(b)?;
-    let (key, b) = value(b)?;
-    if !b.is_empty() {
+    let (error, row) = row.split_first()?;
+    let (state, row) = row.split_first()?;
+    let (token, row) = row.split_first()?;
+    let (key, row) = row.split_first()?;
+    if row.split_first().is_some() {
         return None;
     }
     Some(OldRow {
@@ -62,25 +49,29 @@ pub(crate) fn old_row(f: &Frame) -> Option<OldRow<'_>>
     })
 }
 
-/// The value of a row of one.
-fn one_value(f: &Frame) -> Option<Option<&[u8]>>
-    ensures { MatchOption result (row_of 1 f.now ≡ None) (λ v. row_of 1 f.now ≡ Some (option_copied v ∷ [])) }
+/// The values of the old pod's row. A frame that is no row of four says nothing.
+pub(crate) fn old_row(f: &Frame) -> Option<OldRow<'_>>
+    ensures { MatchOption result ((t : TransferKey) (p : List Pair) → said t p (rows.row_of f.now) ≡ None) (λ r. rows.row_of f.now ≡ Some (option_copied r.error ∷ option_copied r.state ∷ option_copied r.token ∷ option_copied r.key ∷ [])) }
 {
-    let b = values_of(f, 1)?;
-    let (v, b) = value(b)?;
-    if !b.is_empty() {
-        return None;
+    four_values(row_of(f)?)
+}
+
+fn is_true(row: RowView<'_>) -> bool
+    ensures { result ≡ has_t (Some row.entry) }
+{
+    match row.split_first() {
+        Some((Some(value), more)) => value == b"t".as_slice() && more.split_first().is_none(),
+        Some((None, _)) => false,
+        None => false,
     }
-    Some(v)
 }
 
 /// Whether it is a row of one value, which is true.
 pub(crate) fn is_true_row(f: &Frame) -> bool
-    ensures { result ≡ has_t (row_of 1 f.now) }
+    ensures { result ≡ has_t (rows.row_of f.now) }
 {
-    match one_value(f) {
-        Some(Some(v)) => v == b"t".as_slice(),
-        Some(None) => false,
+    match row_of(f) {
+        Some(row) => is_true(row),
         None => false,
     }
 }

@@ -8,7 +8,8 @@ ghost use Rattle.base64.specs.GeneralPurpose.{decode_of};
 ghost use Rattle.base64.specs.Engines.{standard};
 ghost use Rattle.transfer_stages.specs.Exchange as expected;
 ghost use Rattle.transfer_stages.specs.Rows.{row_of};
-ghost use Rattle.transfer_exchange.specs.Packets.{can_be_taken};
+ghost use Rattle.transfer_stages.specs.Exchange.{is_base64};
+ghost use Rattle.transfer_exchange.specs.Packets.{are_within};
 
 use crate::rows::{OldRow, old_row};
 use crate::texts::packet_fits;
@@ -47,19 +48,25 @@ fn decoded(alloc: Global, text: &[u8]) -> Result<Option<Bytes>, NoMemory>
     }
 }
 
-/// Whether a state and a token are within their limits, and the token is padded base64.
-fn can_be_taken(
-    alloc: Global,
-    params: &Params,
-    state: &[u8],
-    token: &[u8],
-) -> Result<bool, NoMemory>
-    ensures { IfOk result (λ b. b ≡ can_be_taken params.now state.now token.now) }
+/// Whether a state, and a startup packet with this token, are within their limits.
+fn are_within(params: &Params, state: &[u8], token: &[u8]) -> bool
+    ensures { result ≡ are_within params.now state.now token.now }
 {
-    if state.len() > MOST_STATE || !packet_fits(params, token) {
-        return Ok(false);
+    state.len() <= MOST_STATE && packet_fits(params, token)
+}
+
+/// The same text, where it is padded base64.
+fn base64_text(alloc: Global, text: &[u8]) -> Result<Option<Text>, NoMemory>
+    ensures { IfOk result (λ r. r ≡ (if is_base64 (decode_of standard text.now) then Some text.now else None)) }
+{
+    match STANDARD.decode(alloc, text) {
+        Ok(bytes) => {
+            let again = STANDARD.encode(alloc, bytes.as_slice())?;
+            Ok(Some(Text::from_string(again)))
+        }
+        Err(DecodeAllocError::DecodeError(_)) => Ok(None),
+        Err(DecodeAllocError::OutOfMemory) => Err(NoMemory),
     }
-    Ok(decoded(alloc, token)?.is_some())
 }
 
 /// A state and a token, where they can be taken over.
@@ -74,10 +81,13 @@ fn given(
     let Some(blob) = decoded(alloc, state)? else {
         return Ok(None);
     };
-    if !can_be_taken(alloc, params, blob.as_slice(), token)? {
+    if !are_within(params, blob.as_slice(), token) {
         return Ok(None);
     }
-    Ok(Some(Said::Given(blob, Bytes::of(alloc, token)?)))
+    let Some(token) = base64_text(alloc, token)? else {
+        return Ok(None);
+    };
+    Ok(Some(Said::Given(blob, token)))
 }
 
 /// Why there is no state.
@@ -124,7 +134,7 @@ pub(crate) fn said(
     params: &Params,
     f: &Frame,
 ) -> Result<Option<Said>, NoMemory>
-    ensures { IfOk result (λ s. s ≡ expected.said key.now params.now (row_of 4 f.now)) }
+    ensures { IfOk result (λ s. s ≡ expected.said key.now params.now (row_of f.now)) }
 {
     let Some(row) = old_row(f) else {
         return Ok(None);

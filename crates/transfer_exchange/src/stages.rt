@@ -31,7 +31,7 @@ pub(crate) fn want_at(stage: &Stage) -> Want
 }
 
 /// Whether a stage sends the startup packet.
-pub(crate) fn is_opening_at(stage: &Stage) -> bool
+pub(crate) fn is_startup_at(stage: &Stage) -> bool
     ensures { result ≡ is_packet stage.now }
 {
     match stage {
@@ -53,8 +53,8 @@ pub(crate) fn is_opening_at(stage: &Stage) -> bool
     }
 }
 
-/// The stage behind a text that was sent.
-pub(crate) fn behind_text(stage: Stage) -> Stage
+/// The stage after a text that was sent.
+pub(crate) fn after_text(stage: Stage) -> Stage
     ensures { result ≡ sent_at stage }
 {
     match stage {
@@ -76,8 +76,8 @@ pub(crate) fn behind_text(stage: Stage) -> Stage
     }
 }
 
-/// The stage behind a dial.
-pub(crate) fn behind_dial(stage: Stage, ok: bool) -> Stage
+/// The stage after a dial.
+pub(crate) fn after_dial(stage: Stage, ok: bool) -> Stage
     ensures { result ≡ dialed_at ok stage }
 {
     match stage {
@@ -104,8 +104,8 @@ pub(crate) fn behind_dial(stage: Stage, ok: bool) -> Stage
     }
 }
 
-/// The stage behind a cut of the link that is written to or read.
-pub(crate) fn behind_cut(stage: Stage, c: Cut) -> Stage
+/// The stage after a cut of the link that is written to or read.
+pub(crate) fn after_cut(stage: Stage, c: Cut) -> Stage
     ensures { result ≡ cut_at c stage }
 {
     match want_at(&stage) {
@@ -115,21 +115,21 @@ pub(crate) fn behind_cut(stage: Stage, c: Cut) -> Stage
     }
 }
 
-/// The stage behind a frame. Where the old pod's row is awaited, `said` is what the frame says as that row.
-pub(crate) fn behind_frame(stage: Stage, said: Option<Said>, f: Frame) -> Stage
-    ensures { (t : Key) (p : List Param) → (stage ≡ Stage.OldRow → said ≡ expected.said t p (row_of 4 f)) → result ≡ expected.takes t p stage f }
+/// The stage after a frame. Where the old pod's row is awaited, `said` is what the frame says as that row.
+pub(crate) fn after_frame(stage: Stage, said: Option<Said>, f: Frame) -> Stage
+    ensures { (t : Key) (p : List Param) → (stage ≡ Stage.OldRow → said ≡ expected.said t p (row_of f)) → result ≡ expected.takes t p stage f }
 {
     match stage {
-        Stage::OldColumns => old_pod::behind_columns(f),
-        Stage::OldRow => old_pod::behind_row(said, f),
-        Stage::OldTag(said) => old_pod::behind_tag(said, f),
-        Stage::OldReady(said) => old_pod::behind_ready(said, f),
-        Stage::NewAuth(state) => new_pod::behind_auth(state, f),
-        Stage::NewStatus(state, statuses, key) => new_pod::behind_status(state, statuses, key, f),
-        Stage::NewColumns(key) => new_pod::behind_columns(key, f),
-        Stage::NewRow(key) => new_pod::behind_row(key, f),
-        Stage::NewTag(key) => new_pod::behind_tag(key, f),
-        Stage::NewReady(key) => new_pod::behind_ready(key, f),
+        Stage::OldColumns => old_pod::after_columns(f),
+        Stage::OldRow => old_pod::after_row(said, f),
+        Stage::OldTag(said) => old_pod::after_tag(said, f),
+        Stage::OldReady(said) => old_pod::after_ready(said, f),
+        Stage::NewAuth(state) => new_pod::after_auth(state, f),
+        Stage::NewStatus(state, statuses, key) => new_pod::after_status(state, statuses, key, f),
+        Stage::NewColumns(key) => new_pod::after_columns(key, f),
+        Stage::NewRow(key) => new_pod::after_row(key, f),
+        Stage::NewTag(key) => new_pod::after_tag(key, f),
+        Stage::NewReady(key) => new_pod::after_ready(key, f),
         Stage::AskOld => Stage::AskOld,
         Stage::Dial(state, token) => Stage::Dial(state, token),
         Stage::Packet(state, token) => Stage::Packet(state, token),

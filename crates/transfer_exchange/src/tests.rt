@@ -1,10 +1,14 @@
 use super::*;
 use pgw_frames::{Bytes, Frame, NoMemory};
-use pgw_messages::Params;
+use pgw_messages::{OwnedFields, Params};
 use session_model::TransferKey;
 use std::alloc::Global;
 use std::test::*;
 use transfer_stages::{Cut, Outcome, Want};
+
+mod new_pod;
+mod old_pod;
+mod texts;
 
 /// What happens to a transfer.
 #[derive(Clone, Copy)]
@@ -33,7 +37,8 @@ const OLD: &[&[u8]] = &[
     b"transfer_key",
 ];
 
-const NEW: &[&[u8]] = &[b"crdb_internal.deserialize_session"];
+/// Its name doesn't matter.
+const NEW: &[&[u8]] = &[b"restored"];
 
 fn message(alloc: Global, tag: u8, body: &[u8]) -> Result<Frame, NoMemory> {
     Ok(Frame {
@@ -166,6 +171,14 @@ fn cut_word(c: &Cut) -> End {
     }
 }
 
+/// What the first field of a refusal is.
+fn refusal(fields: &OwnedFields) -> End {
+    match fields.view().split_first() {
+        Some((code, _, _)) => ("revival refused", code as u32),
+        None => ("revival refused without a field", 0),
+    }
+}
+
 /// What it came to.
 fn came_to(x: &Exchange) -> End {
     match x.outcome() {
@@ -173,7 +186,7 @@ fn came_to(x: &Exchange) -> End {
         Some(Outcome::Moved(Some(key))) => ("moved", key.process),
         Some(Outcome::Moved(None)) => ("moved without a key", 0),
         Some(Outcome::Refused(t)) => ("refused", t.as_str().len().min(99) as u32),
-        Some(Outcome::RevivalRefused(f)) => ("revival refused", f.tag as u32),
+        Some(Outcome::RevivalRefused(fields)) => refusal(fields),
         Some(Outcome::DialFault) => ("dial fault", 0),
         Some(Outcome::NewCut(c)) => cut_word(c),
         Some(Outcome::OldCut(c)) => cut_word(c),
@@ -204,143 +217,4 @@ fn text_after(alloc: Global, mut x: Exchange, steps: &[Step<'_>]) -> Result<Byte
     drop(x);
     gone?;
     text
-}
-
-#[test]
-fn the_transfer_query(rt: HostRuntime) -> Result<(), Fail> {
-    let query = text_after(rt.alloc(), begun(rt.alloc())?, &[])?;
-    let want = b"Q\0\0\0\x40SHOW TRANSFER STATE WITH '0000000000000001000000000000000a'\0";
-    assert_eq!(rt; query.as_slice(), want.as_slice());
-    Ok(())
-}
-
-#[test]
-fn the_startup_packet(rt: HostRuntime) -> Result<(), Fail> {
-    let packet = text_after(rt.alloc(), up_to_dial(rt.alloc())?, &[Dial(true)])?;
-    let want = b"\0\0\0\x37\0\x03\0\0user\0u\0crdb:session_revival_token_base64\0dG9r\0\0";
-    assert_eq!(rt; packet.as_slice(), want.as_slice());
-    Ok(())
-}
-
-#[test]
-fn the_restore_query(rt: HostRuntime) -> Result<(), Fail> {
-    let ready = [Step::Frame(b'Z', b"I")];
-    let restore = text_after(rt.alloc(), up_to_greeting(rt.alloc())?, &ready)?;
-    let want = b"Q\0\0\0\x46SELECT crdb_internal.deserialize_session(decode('AQ==','base64'))\0";
-    assert_eq!(rt; restore.as_slice(), want.as_slice());
-    Ok(())
-}
-
-#[test]
-fn rows_of_an_old_pod(rt: HostRuntime) -> Result<(), Fail> {
-    let rows: [(&[Option<&[u8]>], End); 9] = [
-        (
-            &[None, Some(b"AQ=="), Some(b"dG9r"), Some(KEY)],
-            ("goes on", 0),
-        ),
-        (&[Some(b"busy"), Some(b""), None, Some(KEY)], ("goes on", 0)),
-        (&[None, None, Some(b"dG9r"), Some(KEY)], ("unexpected", 68)),
-        (
-            &[None, Some(b"AQ="), Some(b"dG9r"), Some(KEY)],
-            ("unexpected", 68),
-        ),
-        (
-            &[None, Some(b"AQ=="), Some(b"dG9"), Some(KEY)],
-            ("unexpected", 68),
-        ),
-        (
-            &[None, Some(b"AQ=="), Some(b"dG9r"), None],
-            ("unexpected", 68),
-        ),
-        (
-            &[None, Some(b"AQ=="), Some(b"dG9r"), Some(b"1")],
-            ("unexpected", 68),
-        ),
-        (&[Some(b"\xff"), None, None, Some(KEY)], ("unexpected", 68)),
-        (&[None, Some(b"AQ=="), Some(b"dG9r")], ("unexpected", 68)),
-    ];
-    for (values, want) in rows {
-        let steps = [Send, Columns(OLD), Row(values)];
-        assert_eq!(rt; end_of(rt.alloc(), begun(rt.alloc())?, &steps)?, want);
-    }
-    Ok(())
-}
-
-#[test]
-fn ends_with_the_old_pod(rt: HostRuntime) -> Result<(), Fail> {
-    let refused = Row(&[Some(b"busy"), Some(b""), Some(b""), Some(KEY)]);
-    let tag = Step::Frame(b'C', b"SHOW TRANSFER STATE 1\0");
-    let rows: [(&[Step<'_>], End); 3] = [
-        (&[Step::Cut], ("cut", 0)),
-        (&[Send, Columns(OLD), refused, tag], ("goes on", 0)),
-        (
-            &[Send, Columns(OLD), refused, tag, Step::Frame(b'Z', b"T")],
-            ("refused", 4),
-        ),
-    ];
-    for (steps, want) in rows {
-        assert_eq!(rt; end_of(rt.alloc(), begun(rt.alloc())?, steps)?, want);
-    }
-    let end = end_of(rt.alloc(), up_to_dial(rt.alloc())?, &[Dial(false)])?;
-    assert_eq!(rt; end, ("dial fault", 0));
-    Ok(())
-}
-
-#[test]
-fn ends_with_the_new_pod(rt: HostRuntime) -> Result<(), Fail> {
-    let rows: [(&[Step<'_>], End); 6] = [
-        (&[Step::Cut], ("cut", 0)),
-        (&[Step::Frame(b'Z', b"I")], ("goes on", 0)),
-        (&[Step::Frame(b'Z', b"T")], ("unexpected", 90)),
-        (
-            &[Step::Frame(b'E', b"SERROR\0C28000\0\0")],
-            ("revival refused", 69),
-        ),
-        (
-            &[Step::Frame(b'E', b"SERROR\0C28000\0")],
-            ("unexpected", 69),
-        ),
-        (&[Step::Frame(b'E', b"")], ("unexpected", 69)),
-    ];
-    for (steps, want) in rows {
-        let end = end_of(rt.alloc(), up_to_greeting(rt.alloc())?, steps)?;
-        assert_eq!(rt; end, want);
-    }
-    Ok(())
-}
-
-#[test]
-fn a_session_is_moved(rt: HostRuntime) -> Result<(), Fail> {
-    let steps = [
-        Step::Frame(b'K', b"\0\0\0\x07\0\0\0\x09"),
-        Step::Frame(b'Z', b"I"),
-        Send,
-        Columns(NEW),
-        Row(&[Some(b"t")]),
-        Step::Frame(b'C', b"SELECT 1\0"),
-        Step::Frame(b'Z', b"I"),
-    ];
-    let x = after(rt.alloc(), up_to_greeting(rt.alloc())?, &steps)?;
-    let end = came_to(&x);
-    let outcome = x.into_outcome();
-    let has_moved = matches!(&outcome, Some(Outcome::Moved(_)));
-    drop(outcome);
-    assert_eq!(rt; end, ("moved", 7));
-    assert!(rt; has_moved);
-    Ok(())
-}
-
-#[test]
-fn limits_of_a_greeting(rt: HostRuntime) -> Result<(), Fail> {
-    let status = Step::Frame(b'S', b"a\0b\0");
-    let mut steps = Vec::new(rt.alloc());
-    for _ in 0..1000 {
-        steps.push(status)?;
-    }
-    let end = end_of(rt.alloc(), up_to_greeting(rt.alloc())?, steps.as_slice())?;
-    assert_eq!(rt; end, ("goes on", 0));
-    steps.push(status)?;
-    let end = end_of(rt.alloc(), up_to_greeting(rt.alloc())?, steps.as_slice())?;
-    assert_eq!(rt; end, ("unexpected", 83));
-    Ok(())
 }

@@ -1,80 +1,42 @@
 //! What is sent in a transfer.
 
-ghost use Rattle.std.specs.Prelude.{◌≡◌, ◌<◌, ◌≤◌, ◌+◌, ◌++◌, length, not, nat_lt, IfOk, OnOk, MatchOption};
+ghost use Rattle.std.specs.Prelude.{◌≡◌, ◌<◌, ◌≤◌, ◌+◌, None, length, not, nat_lt, codes, IfOk, MatchOption};
 ghost use Rattle.pgw_frames.specs.Frames.{frame_bytes};
-ghost use Rattle.pgw_messages.specs.Startup.{pair_bytes, startup_body};
+ghost use Rattle.pgw_messages.specs.Params.{value_of};
 ghost use Rattle.session_model.specs.Texts as text;
 ghost use Rattle.transfer_stages.specs.Exchange.{packet};
-ghost use Rattle.transfer_exchange.specs.Packets.{with_token};
 
-use pgw_frames::{Bytes, Frame, NoMemory, Text, write_frame};
-use pgw_messages::{Pair, Params};
+use pgw_frames::{Bytes, NoMemory, Text, write_frame};
+use pgw_messages::{FrontMsg, Params, startup_bytes};
 use std::alloc::Global;
 
 /// The parameter in which a startup packet carries a revival token.
 const TOKEN_NAME: &str = "crdb:session_revival_token_base64";
 
-/// Version 3.0 of the protocol.
-const VERSION: u32 = 196_608;
-
 /// The most bytes of a startup packet behind its length, its version and the zero byte at its end.
 const MOST_PAIRS: usize = 11_899_991;
-
-/// How many bytes a packet takes at first, but for its token: most have few and short parameters.
-const SMALL_PACKET: usize = 128;
 
 /// The bytes of a Query with this text.
 pub(crate) fn query(alloc: Global, t: Text) -> Result<Bytes, NoMemory>
     requires { length t < 16777216 }
     ensures { IfOk result (λ b. b ≡ frame_bytes (text.query t)) }
 {
-    let mut words = t.into_string();
-    words.push_str("\0")?;
-    let body = Bytes::from_vec(words.into_bytes());
+    let frame = FrontMsg::Query(t).into_frame(alloc)?;
     let mut out = Bytes::new(alloc);
-    write_frame(&Frame { tag: b'Q', body }, &mut out)?;
+    write_frame(&frame, &mut out)?;
     Ok(out)
 }
 
-/// Adds a name and a value, each ended by a zero byte.
-fn add_pair(body: &mut Vec<u8>, name: &[u8], value: &[u8]) -> Result<(), NoMemory>
-    ensures { OnOk result (body.new.items ≡ body.old.items ++ pair_bytes (record { name = name.now; value = value.now })) }
-{
-    body.extend_from_slice(name)?;
-    body.push(0)?;
-    body.extend_from_slice(value)?;
-    body.push(0)?;
-    Ok(())
-}
-
-/// A startup packet behind its length.
-fn packet_body(alloc: Global, params: &[Pair], token: &[u8]) -> Result<Vec<u8>, NoMemory>
-    ensures { IfOk result (λ b. b.items ≡ startup_body (with_token params.now token.now)) }
-{
-    let mut body = Vec::with_capacity(alloc, SMALL_PACKET + token.len())?;
-    body.extend_from_slice(&VERSION.to_be_bytes())?;
-    for q in params {
-        add_pair(
-            &mut body,
-            q.name.as_str().as_bytes(),
-            q.value.as_str().as_bytes(),
-        )?;
-    }
-    add_pair(&mut body, TOKEN_NAME.as_bytes(), token)?;
-    body.push(0)?;
-    Ok(body)
-}
-
-/// The startup packet of these parameters with a revival token.
-#[tactic(auto, unfolding(transfer_stages::specs::Exchange::packet, pgw_messages::specs::Startup::startup_packet))]
-pub(crate) fn packet(alloc: Global, params: &Params, token: &[u8]) -> Result<Bytes, NoMemory>
-    requires { length (packet params.now token.now) ≤ 11900000 }
+/// The startup packet of these parameters with a revival token, which they don't have yet.
+#[tactic(auto, unfolding(transfer_stages::specs::Exchange::packet))]
+pub(crate) fn packet(alloc: Global, params: &Params, token: &str) -> Result<Bytes, NoMemory>
+    requires fits { length (packet params.now token.now) ≤ 11900000 }
+    requires new { value_of (codes "crdb:session_revival_token_base64") params.now ≡ None }
     ensures { IfOk result (λ b. b ≡ packet params.now token.now) }
 {
-    let body = packet_body(alloc, params.as_slice(), token)?;
-    let mut out = Bytes::of(alloc, &(body.len() as u32 + 4).to_be_bytes())?;
-    out.extend(body.as_slice())?;
-    Ok(out)
+    let mut all = params.copy()?;
+    all.put(TOKEN_NAME, token)?;
+    startup_bytes(alloc, &all)
 }
 
 /// What is left of so much room behind a name and a value.

@@ -1,6 +1,6 @@
 -- The new pod's greeting: the stages take what is accepted.
 use Rattle.std.proofs.Common.{◌≡◌, ◌+◌, ◌<◌, ◌≤◌, ℕ, Bool, true, false, List, [], ◌∷◌, ◌++◌, length, map, Option, Some, None, refl, sym, ap, ◌∙◌, subst, ◌⊎◌, inl, inr, arith, append-nil}
-use Rattle.std.specs.Prelude.{◌==◌, ◌&&◌, ◌||◌, nat_lt, filter, if◌then◌else◌}
+use Rattle.std.specs.Prelude.{◌==◌, ◌&&◌, ◌||◌, nat_lt, filter, is_some, if◌then◌else◌}
 use Rattle.std.specs.List.{list_all}
 use Rattle.std.specs.Option.{option_to_list}
 use Rattle.std.specs.Str.{bytes_eq}
@@ -10,9 +10,15 @@ use Rattle.pgw_messages.specs.declared.params.Pair.{Pair}
 use Rattle.pgw_messages.specs.declared.pod_key.PodKey.{PodKey}
 use Rattle.session_model.specs.Texts.{ready}
 use Rattle.session_model.specs.declared.transfer.TransferKey.{TransferKey}
-use Rattle.transfer_stages.specs.Accepts.{AcceptsGreeting, is_status, is_pod_key}
+use Rattle.transfer_stages.specs.Accepts.{AcceptsGreeting, is_status, is_pod_key, keys_in}
 use Rattle.transfer_stages.specs.Taking.{Leads, GreetingLeads, GreetingStops, GreetingGoesOn}
-use Rattle.transfer_stages.specs.Exchange.{wants, takes, is_ready_idle, is_auth_ok, pod_key, keeps_key, greets, new_unexpected}
+use Rattle.transfer_stages.specs.Exchange.{wants, takes, is_ready_idle, is_auth_ok, has_code_0, keeps_key, greets, new_unexpected}
+use Rattle.pgw_messages.specs.declared.backend.auth.AuthMsg.{AuthMsg}
+use Rattle.transfer_stages.specs.Rows.{auth_of, key_of}
+use Rattle.pgw_messages.specs.Backend.{back_frame, auth_at, key_at}
+use Rattle.pgw_messages.specs.Reading.{whole}
+use Rattle.pgw_messages.specs.declared.backend.message.BackMsg.TheVariants as back
+use Rattle.std.specs.Result.{result_ok}
 use Rattle.transfer_stages.specs.declared.stage.Stage.{Stage}
 use Rattle.transfer_stages.specs.declared.stage.Stage.TheVariants as at
 use Rattle.transfer_stages.specs.declared.stage.Want.TheVariants.{AwaitNew}
@@ -40,10 +46,29 @@ other_tag f n m apart e = ap (λ (k : ℕ). k == m) (eqb-true f.tag n e) ∙ apa
 status_taken : (state : List ℕ) (n : ℕ) (key : Option PodKey) (f : Frame) → is_status f ≡ true → n < 1000 → greets state n key f ≡ at.NewStatus state (n + 1) key
 status_taken state n key f e less = rw (e, lt-ltb n 1000 less) refl
 
-key_taken : (state : List ℕ) (n : ℕ) (f : Frame) → is_pod_key f ≡ true → greets state n None f ≡ at.NewStatus state n (Some (pod_key f))
-key_taken state n f e =
-    let parts = and_parts (f.tag == 75) (length f.body == 8) e in
-    rw (other_tag f 75 83 refl parts.0, parts.0, parts.1) refl
+tag_by : (b : Bool) (key : Option PodKey) → is_some (if b then key else None) ≡ true → b ≡ true
+tag_by true key e = refl
+tag_by false key e = absurd cc
+
+pub key_tag : (f : Frame) → is_pod_key f ≡ true → (f.tag == 75) ≡ true
+unfolding key_of
+key_tag f e = tag_by (f.tag == 75) (result_ok (whole (key_at f.body))) e
+
+auth_by : (b : Bool) (m : Option AuthMsg) → has_code_0 (if b then m else None) ≡ true → b ≡ true
+auth_by true m e = refl
+auth_by false m e = absurd cc
+
+pub auth_tag : (f : Frame) → is_auth_ok f ≡ true → (f.tag == 82) ≡ true
+unfolding is_auth_ok auth_of
+auth_tag f e = auth_by (f.tag == 82) (result_ok (whole (auth_at f.body))) e
+
+-- a message of another type has no key
+no_key : (f : Frame) → (f.tag == 75) ≡ false → key_of f ≡ None
+unfolding key_of
+no_key f e = rw e refl
+
+key_taken : (state : List ℕ) (n : ℕ) (f : Frame) → is_pod_key f ≡ true → greets state n None f ≡ at.NewStatus state n (key_of f)
+key_taken state n f e = rw (other_tag f 75 83 refl (key_tag f e), key_tag f e, e) refl
 
 ready_taken : (state : List ℕ) (n : ℕ) (key : Option PodKey) (f : Frame) → is_ready_idle f ≡ true → greets state n key f ≡ at.Restore state key
 ready_taken state n key f e =
@@ -55,7 +80,7 @@ ready_taken state n key f e =
 record Between (n : ℕ) (key : Option PodKey) (fs : List Frame) (last : Option PodKey) : Type 0 where
   known : list_all (λ f. is_status f || is_pod_key f) fs ≡ true
   statuses : n + length (filter is_status fs) ≤ 1000
-  keyed : option_to_list key ++ map pod_key (filter is_pod_key fs) ≡ option_to_list last
+  keyed : option_to_list key ++ keys_in fs ≡ option_to_list last
 
 no_more : (n : ℕ) (key last : Option PodKey) → n ≤ 1000 → key ≡ last → Between n key [] last
 no_more n key last le same = record { known = refl; statuses = omega arith; keyed = append-nil (option_to_list key) ∙ ap option_to_list same }
@@ -65,17 +90,16 @@ one_status n key f fs last e b =
     record {
       known = rw e b.known;
       statuses = rw e (omega (arith, b.statuses));
-      keyed = rw (other_tag f 83 75 refl e) b.keyed;
+      keyed = rw (no_key f (other_tag f 83 75 refl e)) b.keyed;
     }
 
-one_key : (n : ℕ) (f : Frame) (fs : List Frame) (last : Option PodKey) → is_pod_key f ≡ true → Between n (Some (pod_key f)) fs last → Between n None (f ∷ fs) last
+one_key : (n : ℕ) (f : Frame) (fs : List Frame) (last : Option PodKey) → is_pod_key f ≡ true → Between n (key_of f) fs last → Between n None (f ∷ fs) last
 one_key n f fs last e b =
-    let parts = and_parts (f.tag == 75) (length f.body == 8) e in
-    let plain : is_status f ≡ false = other_tag f 75 83 refl parts.0 in
+    let plain : is_status f ≡ false = other_tag f 75 83 refl (key_tag f e) in
     record {
-      known = rw (plain, parts.0, parts.1) b.known;
+      known = rw (plain, e) b.known;
       statuses = rw plain b.statuses;
-      keyed = rw (parts.0, parts.1) b.keyed;
+      keyed = b.keyed;
     }
 
 -- ---- what leads to the restore is a greeting
@@ -94,17 +118,17 @@ Rest t p state fs s last = (m : ℕ) (key : Option PodKey) → m ≤ 1000 → Le
 never : (t : TransferKey) (p : List Pair) (f : Frame) (fs : List Frame) (s : List ℕ) (last : Option PodKey) → ¬ Leads AwaitNew t p (new_unexpected f) fs (at.Restore s last)
 never t p f fs s last h = not_refused f s last (stuck AwaitNew t p (new_unexpected f) fs (at.Restore s last) (is_left f) h).1
 
-key_led : (t : TransferKey) (p : List Pair) (state : List ℕ) (n : ℕ) (key : Option PodKey) (f : Frame) (fs : List Frame) (s : List ℕ) (last : Option PodKey) (b : Bool) → n ≤ 1000 → (f.tag == 75) ≡ true → (length f.body == 8) ≡ b
+key_led : (t : TransferKey) (p : List Pair) (state : List ℕ) (n : ℕ) (key : Option PodKey) (f : Frame) (fs : List Frame) (s : List ℕ) (last : Option PodKey) (b : Bool) → n ≤ 1000 → (f.tag == 75) ≡ true → is_some (key_of f) ≡ b
     → Leads AwaitNew t p (keeps_key state n f key) fs (at.Restore s last) → Rest t p state fs s last → Greeted state n key (f ∷ fs) s last
 key_led t p state n (Some key) f fs s last b le e is h rest = absurd (never t p f fs s last h)
 key_led t p state n None f fs s last true le e is h rest =
-    let r = rest n (Some (pod_key f)) le (rw is at h) in
+    let r = rest n (key_of f) le (rw is at h) in
     record {
       between = f ∷ r.between;
       end = r.end;
       whole = ap (λ (gs : List Frame). f ∷ gs) r.whole;
       same = r.same;
-      within = one_key n f r.between last (rw (e, is) refl) r.within;
+      within = one_key n f r.between last is r.within;
       idle = r.idle;
     }
 key_led t p state n None f fs s last false le e is h rest = absurd (never t p f fs s last (rw is at h))
@@ -125,7 +149,7 @@ greeted_by t p state n key f fs s last true b c le is_a is_b is_c h rest =
       within = one_status n key f r.between last parts.0 r.within;
       idle = r.idle;
     }
-greeted_by t p state n key f fs s last false true c le is_a is_b is_c h rest = key_led t p state n key f fs s last (length f.body == 8) le is_b refl h rest
+greeted_by t p state n key f fs s last false true c le is_a is_b is_c h rest = key_led t p state n key f fs s last (is_some (key_of f)) le is_b refl h rest
 greeted_by t p state n key f fs s last false false true le is_a is_b is_c h rest =
     let over = stuck AwaitNew t p (at.Restore state key) fs (at.Restore s last) (λ e. cc) h in
     let state_same : s ≡ state = cc (over.1) in
@@ -162,9 +186,10 @@ greeting_led t p state (f ∷ fs) s key h =
 -- ---- a greeting leads to the restore
 
 -- no second key stands behind a first one
-one_only : (k j : PodKey) (ks : List PodKey) (last : Option PodKey) → ¬ ((k ∷ []) ++ (j ∷ ks) ≡ option_to_list last)
-one_only k j ks None e = cc
-one_only k j ks (Some l) e = cc
+one_only : (k : PodKey) (second : Option PodKey) (ks : List PodKey) (last : Option PodKey) → is_some second ≡ true → ¬ ((k ∷ []) ++ (option_to_list second ++ ks) ≡ option_to_list last)
+one_only k None ks last some e = cc
+one_only k (Some j) ks None some e = cc
+one_only k (Some j) ks (Some l) some e = cc
 
 same_key : (key last : Option PodKey) → option_to_list key ++ [] ≡ option_to_list last → key ≡ last
 same_key None None e = refl
@@ -185,23 +210,20 @@ status_leads t p state n key f fs end last e b rest =
     let others = rest (record {
       known = rw e at b.known;
       statuses = omega (arith, b.statuses);
-      keyed = rw (other_tag f 83 75 refl e) at b.keyed;
+      keyed = rw (no_key f (other_tag f 83 75 refl e)) at b.keyed;
     }) in
     led_on t p state n key f (fs ++ end ∷ []) (at.NewStatus state (n + 1) key) (at.Restore state last) (status_taken state n key f e (omega (arith, b.statuses))) others
 
 key_leads : (t : TransferKey) (p : List Pair) (state : List ℕ) (n : ℕ) (key : Option PodKey) (f : Frame) (fs : List Frame) (end : Frame) (last : Option PodKey) → is_status f ≡ false → is_pod_key f ≡ true → Between n key (f ∷ fs) last
-    → (Between n (Some (pod_key f)) fs last → Leading t p state n (Some (pod_key f)) fs end last) → Leading t p state n key (f ∷ fs) end last
-key_leads t p state n (Some k) f fs end last plain e b rest =
-    let parts = and_parts (f.tag == 75) (length f.body == 8) e in
-    absurd (one_only k (pod_key f) (map pod_key (filter is_pod_key fs)) last (rw (parts.0, parts.1) at b.keyed))
+    → (Between n (key_of f) fs last → Leading t p state n (key_of f) fs end last) → Leading t p state n key (f ∷ fs) end last
+key_leads t p state n (Some k) f fs end last plain e b rest = absurd (one_only k (key_of f) (keys_in fs) last e b.keyed)
 key_leads t p state n None f fs end last plain e b rest =
-    let parts = and_parts (f.tag == 75) (length f.body == 8) e in
     let others = rest (record {
-      known = rw (plain, parts.0, parts.1) at b.known;
+      known = rw (plain, e) at b.known;
       statuses = rw plain at b.statuses;
-      keyed = rw (parts.0, parts.1) at b.keyed;
+      keyed = b.keyed;
     }) in
-    led_on t p state n None f (fs ++ end ∷ []) (at.NewStatus state n (Some (pod_key f))) (at.Restore state last) (key_taken state n f e) others
+    led_on t p state n None f (fs ++ end ∷ []) (at.NewStatus state n (key_of f)) (at.Restore state last) (key_taken state n f e) others
 
 known_by : (f : Frame) (fs : List Frame) → (is_status f || is_pod_key f) && list_all (λ g. is_status g || is_pod_key g) fs ≡ true → is_status f ≡ false → is_pod_key f ≡ true
 known_by f fs e plain =
@@ -211,7 +233,7 @@ known_by f fs e plain =
 between_leads_by : (t : TransferKey) (p : List Pair) (state : List ℕ) (n : ℕ) (key : Option PodKey) (f : Frame) (fs : List Frame) (end : Frame) (last : Option PodKey) (a : Bool) → is_status f ≡ a → Between n key (f ∷ fs) last
     → ((m : ℕ) (k : Option PodKey) → Between m k fs last → Leading t p state m k fs end last) → Leading t p state n key (f ∷ fs) end last
 between_leads_by t p state n key f fs end last true e b rest = status_leads t p state n key f fs end last e b (rest (n + 1) key)
-between_leads_by t p state n key f fs end last false e b rest = key_leads t p state n key f fs end last e (known_by f fs b.known e) b (rest n (Some (pod_key f)))
+between_leads_by t p state n key f fs end last false e b rest = key_leads t p state n key f fs end last e (known_by f fs b.known e) b (rest n (key_of f))
 
 between_leads : (t : TransferKey) (p : List Pair) (state : List ℕ) (n : ℕ) (key : Option PodKey) (between : List Frame) (end : Frame) (last : Option PodKey) → is_ready_idle end ≡ true → Between n key between last → Leading t p state n key between end last
 between_leads t p state n key [] end last idle b =
@@ -247,10 +269,10 @@ status_goes : (t : TransferKey) (p : List Pair) (state : List ℕ) (n : ℕ) (ke
 status_goes t p state n key = record { more = ready 73 ∷ []; s = state; key = key; leads = led_on t p state n key (ready 73) [] (at.Restore state key) (at.Restore state key) (ready_taken state n key (ready 73) refl) refl }
 
 auth_ok : Frame
-auth_ok = record { tag = 82; body = 0 ∷ 0 ∷ 0 ∷ 0 ∷ [] }
+auth_ok = back_frame (back.Auth (record { code = 0; rest = [] }))
 
 auth_goes : (t : TransferKey) (p : List Pair) (state : List ℕ) → GoesOn t p (at.NewAuth state)
-unfolding auth_ok
+unfolding auth_ok is_auth_ok auth_of
 auth_goes t p state =
     let others = status_goes t p state 0 None in
     record {
@@ -301,7 +323,7 @@ Choice t p z f = (z ≡ new_unexpected f) ⊎ (IsGreeting z × GoesOn t p z)
 
 key_choice : (t : TransferKey) (p : List Pair) (state : List ℕ) (n : ℕ) (key : Option PodKey) (f : Frame) → Choice t p (keeps_key state n f key) f
 key_choice t p state n (Some k) f = inl refl
-key_choice t p state n None f = refused_or (λ z. IsGreeting z × GoesOn t p z) (keeps_key state n f None) (at.NewStatus state n (Some (pod_key f))) (new_unexpected f) (length f.body == 8) refl (tt, status_goes t p state n (Some (pod_key f)))
+key_choice t p state n None f = refused_or (λ z. IsGreeting z × GoesOn t p z) (keeps_key state n f None) (at.NewStatus state n (key_of f)) (new_unexpected f) (is_some (key_of f)) refl (tt, status_goes t p state n (key_of f))
 
 chosen : (t : TransferKey) (p : List Pair) (f : Frame) (b : Bool) (x y : Stage) → Choice t p x f → Choice t p y f → Choice t p (if b then x else y) f
 chosen t p f true x y h g = h

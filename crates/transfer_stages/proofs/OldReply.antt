@@ -1,9 +1,8 @@
 -- The old pod's reply: the stages take what is accepted.
 use Rattle.std.proofs.Common.{◌≡◌, ◌<◌, ℕ, zero, suc, Bool, true, List, [], ◌∷◌, ◌++◌, Option, Some, None, refl, sym, ap, ◌∙◌, subst, ◌⊎◌, inl, inr, arith}
-use Rattle.std.specs.Prelude.{if◌then◌else◌, codes, slice_index}
+use Rattle.std.specs.Prelude.{if◌then◌else◌, codes}
 use Rattle.std.specs.Str.{bytes_eq, is_utf8}
 use Rattle.std.proofs.lemmas.List.{length-append}
-use Rattle.std.proofs.lemmas.Str.{is_utf8-from_IsUtf8, IsUtf8-from_ascii}
 use Rattle.std.proofs.lemmas.Slice.Eq.{bytes_eq-Decides}
 use Rattle.pgw_frames.specs.declared.frame.Frame.{Frame}
 use Rattle.pgw_messages.specs.declared.params.Pair.{Pair}
@@ -12,12 +11,13 @@ use Rattle.session_model.specs.declared.transfer.TransferKey.{TransferKey}
 use Rattle.transfer_stages.specs.Accepts.{AcceptsOld, FitsReady}
 use Rattle.transfer_stages.specs.Taking.{Leads, end_of, OldReplyLeads, OldReplyStops, OldReplyGoesOn}
 use Rattle.transfer_stages.specs.Exchange.{wants, takes, said, is_tag, is_ready, is_ready_idle, transfer_names, old_unexpected, row_said}
-use Rattle.transfer_stages.specs.Rows.{is_columns, row_of}
+use Rattle.transfer_stages.specs.Rows.{has_names, row_of}
 use Rattle.transfer_stages.specs.declared.stage.Said.{Said}
 use Rattle.transfer_stages.specs.declared.stage.Said.TheVariants.{Given, Refuses}
 use Rattle.transfer_stages.specs.declared.stage.Stage.{Stage}
 use Rattle.transfer_stages.specs.declared.stage.Stage.TheVariants as at
 use Rattle.transfer_stages.specs.declared.stage.Want.TheVariants.{AwaitOld, Dial, Ended}
+use Rattle.transfer_stages.proofs.Columns.{transfer_named, text_of_ascii}
 use Rattle.transfer_stages.proofs.Saying.{row_read, length-key_digits}
 use Rattle.transfer_stages.proofs.Leading.{stuck, step, step_back, behind, joined, refused_or}
 
@@ -115,15 +115,15 @@ record Told (t : TransferKey) (p : List Pair) (s : Said) (fs : List Frame) : Typ
   tag : Frame
   ready : Frame
   whole : fs ≡ f ∷ tag ∷ ready ∷ []
-  says : said t p (row_of 4 f) ≡ Some s
+  says : said t p (row_of f) ≡ Some s
   done : tag_test tag ≡ true
   fits : FitsReady s ready
 
-takes_row : (t : TransferKey) (p : List Pair) (f : Frame) → takes t p at.OldRow f ≡ row_said f (said t p (row_of 4 f))
+takes_row : (t : TransferKey) (p : List Pair) (f : Frame) → takes t p at.OldRow f ≡ row_said f (said t p (row_of f))
 unfolding takes
 takes_row t p f = refl
 
-row_led_by : (t : TransferKey) (p : List Pair) (s : Said) (f : Frame) (fs : List Frame) (o : Option Said) → said t p (row_of 4 f) ≡ o → Leads AwaitOld t p (row_said f o) fs (end_of s) → Told t p s (f ∷ fs)
+row_led_by : (t : TransferKey) (p : List Pair) (s : Said) (f : Frame) (fs : List Frame) (o : Option Said) → said t p (row_of f) ≡ o → Leads AwaitOld t p (row_said f o) fs (end_of s) → Told t p s (f ∷ fs)
 row_led_by t p s f fs None e h = absurd (not_refused f s (stuck AwaitOld t p (old_unexpected f) fs (end_of s) (is_left f) h).1)
 row_led_by t p s f fs (Some r) e h =
     let others = tag_led t p r s fs h in
@@ -139,9 +139,9 @@ row_led_by t p s f fs (Some r) e h =
 
 row_led : (t : TransferKey) (p : List Pair) (s : Said) (fs : List Frame) → Leads AwaitOld t p at.OldRow fs (end_of s) → Told t p s fs
 row_led t p s [] h = absurd (not_end at.OldRow s refl h)
-row_led t p s (f ∷ fs) h = row_led_by t p s f fs (said t p (row_of 4 f)) refl (subst (λ (z : Stage). Leads AwaitOld t p z fs (end_of s)) (takes_row t p f) h.1)
+row_led t p s (f ∷ fs) h = row_led_by t p s f fs (said t p (row_of f)) refl (subst (λ (z : Stage). Leads AwaitOld t p z fs (end_of s)) (takes_row t p f) h.1)
 
-row_leads : (t : TransferKey) (p : List Pair) (s : Said) (f tag ready : Frame) → said t p (row_of 4 f) ≡ Some s → tag_test tag ≡ true → FitsReady s ready → Leads AwaitOld t p at.OldRow (f ∷ tag ∷ ready ∷ []) (end_of s)
+row_leads : (t : TransferKey) (p : List Pair) (s : Said) (f tag ready : Frame) → said t p (row_of f) ≡ Some s → tag_test tag ≡ true → FitsReady s ready → Leads AwaitOld t p at.OldRow (f ∷ tag ∷ ready ∷ []) (end_of s)
 row_leads t p s f tag ready says done fits =
     let to : takes t p at.OldRow f ≡ at.OldTag s = takes_row t p f ∙ ap (row_said f) says in
     (refl, subst (λ (z : Stage). Leads AwaitOld t p z (tag ∷ ready ∷ []) (end_of s)) (sym to) (tag_leads t p s tag ready done fits))
@@ -149,7 +149,7 @@ row_leads t p s f tag ready says done fits =
 -- ---- the columns, and so the whole reply
 
 names_test : Frame → Bool
-names_test f = is_columns transfer_names f
+names_test f = has_names transfer_names f
 
 takes_columns : (t : TransferKey) (p : List Pair) (f : Frame) → takes t p at.OldColumns f ≡ (if names_test f then at.OldRow else old_unexpected f)
 unfolding takes names_test
@@ -208,20 +208,16 @@ tag_goes t p s = record { more = transfer_tag ∷ ready 73 ∷ []; s = s; leads 
 refusing : TransferKey → Frame
 refusing t = row (codes "x" ∷ [] ∷ [] ∷ key_digits t ∷ [])
 
-refusing_read : (t : TransferKey) → row_of 4 (refusing t) ≡ Some (Some (codes "x") ∷ Some [] ∷ Some [] ∷ Some (key_digits t) ∷ [])
+refusing_read : (t : TransferKey) → row_of (refusing t) ≡ Some (Some (codes "x") ∷ Some [] ∷ Some [] ∷ Some (key_digits t) ∷ [])
 unfolding refusing
 refusing_read t =
     row_read (codes "x") [] [] (key_digits t)
     (omega (arith, length-key_digits t, length-append (key_digits t) []))
 
 an_x : is_utf8 (codes "x") ≡ true
-an_x = is_utf8-from_IsUtf8 (codes "x") (IsUtf8-from_ascii (codes "x") low)
-  where
-    low : (i : ℕ) → slice_index (codes "x") i < 128
-    low zero = omega arith
-    low (suc i) = omega arith
+an_x = (text_of_ascii (codes "x") refl refl).utf8
 
-refusing_says : (t : TransferKey) (p : List Pair) → said t p (row_of 4 (refusing t)) ≡ Some (Refuses (codes "x"))
+refusing_says : (t : TransferKey) (p : List Pair) → said t p (row_of (refusing t)) ≡ Some (Refuses (codes "x"))
 refusing_says t p =
     let keyed : bytes_eq (key_digits t) (key_digits t) ≡ true = (bytes_eq-Decides (key_digits t) (key_digits t)).1 refl in
     ap (said t p) (refusing_read t) ∙ rw (keyed, an_x) refl
@@ -234,8 +230,8 @@ row_goes t p = record {
 }
 
 named : names_test transfer_columns ≡ true
-unfolding names_test is_columns transfer_columns
-named = refl
+unfolding names_test
+named = transfer_named
 
 columns_go : (t : TransferKey) (p : List Pair) → GoesOn t p at.OldColumns
 columns_go t p =
@@ -282,7 +278,7 @@ row_choice t p f (Some s) = inr (tag_goes t p s)
 
 choice : (t : TransferKey) (p : List Pair) (x : Stage) (f : Frame) → wants x ≡ AwaitOld → Choice t p (takes t p x f) f
 choice t p at.OldColumns f w = refused_or (GoesOn t p) (takes t p at.OldColumns f) at.OldRow (old_unexpected f) (names_test f) (takes_columns t p f) (row_goes t p)
-choice t p at.OldRow f w = subst (λ (z : Stage). Choice t p z f) (sym (takes_row t p f)) (row_choice t p f (said t p (row_of 4 f)))
+choice t p at.OldRow f w = subst (λ (z : Stage). Choice t p z f) (sym (takes_row t p f)) (row_choice t p f (said t p (row_of f)))
 choice t p (at.OldTag s) f w = refused_or (GoesOn t p) (takes t p (at.OldTag s) f) (at.OldReady s) (old_unexpected f) (tag_test f) (takes_tag t p s f) (ready_goes t p s)
 choice t p (at.OldReady s) f w = refused_or (GoesOn t p) (takes t p (at.OldReady s) f) (end_of s) (old_unexpected f) (ready_test s f) (takes_ready t p s f) (end_goes t p s)
 choice t p at.AskOld f w = absurd cc

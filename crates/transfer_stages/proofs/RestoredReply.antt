@@ -1,18 +1,20 @@
 -- The new pod's reply to a restore Query: the stages take what is accepted.
 use Rattle.std.proofs.Common.{◌≡◌, Bool, true, false, List, [], ◌∷◌, ◌++◌, Option, refl, sym, ap, subst, ◌⊎◌, inl, inr}
-use Rattle.std.specs.Prelude.{if◌then◌else◌, codes}
+use Rattle.std.specs.Prelude.{Some, None, if◌then◌else◌, codes}
 use Rattle.pgw_frames.specs.declared.frame.Frame.{Frame}
 use Rattle.pgw_messages.specs.declared.params.Pair.{Pair}
+use Rattle.pgw_messages.specs.Reading.{list_at}
+use Rattle.transfer_stages.proofs.Columns.{restored_named}
+use Rattle.pgw_messages.specs.declared.backend.fields.Field.{Field}
 use Rattle.pgw_messages.specs.declared.pod_key.PodKey.{PodKey}
 use Rattle.session_model.specs.Texts.{ready, restore_columns, restore_row, restore_tag}
 use Rattle.session_model.specs.declared.transfer.TransferKey.{TransferKey}
 use Rattle.transfer_stages.specs.Accepts.{AcceptsRestored}
 use Rattle.transfer_stages.specs.Taking.{Leads, RestoredLeads, RestoredStops, RestoredGoesOn, NewPodLeads}
-use Rattle.transfer_stages.specs.Exchange.{wants, takes, is_tag, is_ready_idle, has_t, new_unexpected}
-use Rattle.transfer_stages.specs.Rows.{is_columns, is_fault, row_of}
-use Rattle.transfer_stages.specs.declared.stage.Cut.TheVariants.{Unexpected}
+use Rattle.transfer_stages.specs.Exchange.{wants, takes, is_tag, is_ready_idle, has_t, refusal, new_unexpected}
+use Rattle.transfer_stages.specs.Rows.{has_one_column, fault_of, row_of}
 use Rattle.transfer_stages.specs.declared.stage.Outcome.{Outcome}
-use Rattle.transfer_stages.specs.declared.stage.Outcome.TheVariants.{Moved, RevivalRefused, NewCut}
+use Rattle.transfer_stages.specs.declared.stage.Outcome.TheVariants.{Moved}
 use Rattle.transfer_stages.specs.declared.stage.Stage.{Stage}
 use Rattle.transfer_stages.specs.declared.stage.Stage.TheVariants as at
 use Rattle.transfer_stages.specs.declared.stage.Want.TheVariants.{AwaitNew}
@@ -22,10 +24,10 @@ use Rattle.transfer_stages.proofs.NewGreeting as greeting
 -- ---- the four frames
 
 names_test : Frame → Bool
-names_test f = is_columns (codes "crdb_internal.deserialize_session" ∷ []) f
+names_test f = has_one_column f
 
 row_test : Frame → Bool
-row_test f = has_t (row_of 1 f)
+row_test f = has_t (row_of f)
 
 tag_test : Frame → Bool
 tag_test f = is_tag (codes "SELECT 1") f
@@ -51,15 +53,15 @@ takes_ready t p key f = refl
 is_left : (f : Frame) → ¬ (wants (new_unexpected f) ≡ AwaitNew)
 is_left f e = cc
 
-not_moved : (f : Frame) (key : Option PodKey) (b : Bool) → ¬ ((if b then RevivalRefused f else NewCut (Unexpected f)) ≡ Moved key)
-not_moved f key true e = cc
-not_moved f key false e = cc
+not_moved : (f : Frame) (key : Option PodKey) (fault : Option (List Field)) → ¬ (refusal f fault ≡ Moved key)
+not_moved f key None e = cc
+not_moved f key (Some fields) e = cc
 
 outcome_same : (o r : Outcome) → at.Ended o ≡ at.Ended r → o ≡ r
 outcome_same o r e = cc
 
 not_refused : (f : Frame) (key : Option PodKey) → ¬ (new_unexpected f ≡ at.Ended (Moved key))
-not_refused f key e = not_moved f key (is_fault f) (outcome_same _ _ e)
+not_refused f key e = not_moved f key (fault_of f) (outcome_same _ _ e)
 
 -- ---- forwards
 
@@ -165,11 +167,11 @@ record GoesOn (t : TransferKey) (p : List Pair) (x : Stage) : Type 0 where
   leads : Leads AwaitNew t p x more (at.Ended (Moved key))
 
 named : names_test restore_columns ≡ true
-unfolding names_test is_columns restore_columns
-named = refl
+unfolding names_test
+named = restored_named
 
 told : row_test restore_row ≡ true
-unfolding row_test row_of restore_row
+unfolding row_test row_of restore_row list_at
 told = refl
 
 tagged : tag_test restore_tag ≡ true

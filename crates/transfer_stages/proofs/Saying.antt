@@ -16,35 +16,29 @@ use Rattle.base64.proofs.EngineFacts.{decode_of-encode_of}
 use Rattle.pgw_frames.specs.Frames.{IsGood, IsBytes}
 use Rattle.hex.specs.Hex.{lower_digits}
 use Rattle.hex.proofs.HexLemmas.{length-encode_with}
-use Rattle.session_model.specs.Texts.{key_bytes, key_digits, transfer_query, restore_query, value, row, transfer_row, digits_row}
+use Rattle.session_model.specs.Texts.{key_bytes, key_digits, transfer_query, restore_query, row, transfer_row, digits_row}
+use Rattle.pgw_messages.proofs.Arms.{whole_is, body_of}
+use Rattle.pgw_messages.proofs.Codecs.{values}
+use Rattle.pgw_messages.specs.Reading.{list_at, value_at}
+use Rattle.pgw_messages.specs.Spelling.{value_bytes, list_bytes, IsList, IsValue}
+use Rattle.std.specs.Result.{result_ok}
 use Rattle.pgw_messages.specs.declared.params.Pair.{Pair}
 use Rattle.session_model.specs.declared.transfer.Dump.{Dump}
 use Rattle.session_model.specs.declared.transfer.Dump.TheVariants.{Blob, Not}
 use Rattle.session_model.specs.declared.transfer.TransferKey.{TransferKey}
-use Rattle.transfer_stages.specs.Rows.{values, row_of}
+use Rattle.transfer_stages.specs.Rows.{row_of}
 use Rattle.transfer_stages.specs.Exchange.{said, given, has_key, is_base64, packet}
 use Rattle.transfer_stages.specs.declared.stage.Said.{Said}
 use Rattle.transfer_stages.specs.declared.stage.Said.TheVariants.{Given, Refuses}
 
-value_first : (n : ℕ) (v more : List ℕ) → length v < 4294967295 → values (suc n) (value v ++ more) ≡ option_map (λ vs. Some v ∷ vs) (values n more)
-value_first n v more lt =
-    let b : List ℕ = value v ++ more in
-    let long : nat_lt (length b) 4 ≡ false = le-ltb (length b) 4 (omega arith) in
-    let field : from_be_bytes w32 (take 4 b) ≡ length v = from_be_bytes-to_be_bytes_4 (length v) (omega arith) in
-    let some : (length v == 4294967295) ≡ false = ne_eqb (length v) 4294967295 (λ e. omega (arith, e)) in
-    let there : nat_lt (length (v ++ more)) (length v) ≡ false = le-ltb (length (v ++ more)) (length v) (omega (arith, length-append v more)) in
-    rw (long, field, some, there, take_at v more (length v) refl, drop_at v more (length v) refl) refl
-
-values_of : (vs : List (List ℕ)) → AllByRecursion (λ v. length v < 4294967295) vs → values (length vs) (flat_map value vs) ≡ Some (map Some vs)
-values_of [] h = refl
-values_of (v ∷ vs) h = value_first (length vs) v (flat_map value vs) h.0 ∙ rw (values_of vs h.1) refl
-
-pub row_read : (a b c d : List ℕ) → IsGood (row (a ∷ b ∷ c ∷ d ∷ [])) → row_of 4 (row (a ∷ b ∷ c ∷ d ∷ [])) ≡ Some (Some a ∷ Some b ∷ Some c ∷ Some d ∷ [])
+pub row_read : (a b c d : List ℕ) → IsGood (row (a ∷ b ∷ c ∷ d ∷ [])) → row_of (row (a ∷ b ∷ c ∷ d ∷ [])) ≡ Some (Some a ∷ Some b ∷ Some c ∷ Some d ∷ [])
 unfolding row_of
 row_read a b c d good =
-    let l : length (flat_map value (a ∷ b ∷ c ∷ d ∷ [])) ≡ 16 + length a + length b + length c + length d =
-    omega (arith, length-append a (flat_map value (b ∷ c ∷ d ∷ [])), length-append b (flat_map value (c ∷ d ∷ [])), length-append c (flat_map value (d ∷ [])), length-append d []) in
-    values_of (a ∷ b ∷ c ∷ d ∷ []) (omega arith, (omega arith, (omega arith, (omega arith, tt))))
+    let vs : List (Option (List ℕ)) = Some a ∷ Some b ∷ Some c ∷ Some d ∷ [] in
+    let l : length (flat_map value_bytes vs) ≡ 16 + length a + length b + length c + length d =
+    omega (arith, length-append a (flat_map value_bytes (Some b ∷ Some c ∷ Some d ∷ [])), length-append b (flat_map value_bytes (Some c ∷ Some d ∷ [])), length-append c (flat_map value_bytes (Some d ∷ [])), length-append d []) in
+    let is : IsList IsValue vs = record { count = omega arith; each = (omega arith, (omega arith, (omega arith, (omega arith, tt)))) } in
+    ap result_ok (whole_is (list_at value_at (list_bytes value_bytes vs)) vs [] tt ((body_of values).again vs is) refl)
 
 given_by : (x : Bool) (b token state given_token : List ℕ) → (if x then Some (Given b token) else None) ≡ Some (Given state given_token) → (b ≡ state) × (x ≡ true)
 given_by true b token state given_token e = (cc, refl)
@@ -58,7 +52,7 @@ refuses_only : (x : Bool) (r state token : List ℕ) → (if x then Some (Refuse
 refuses_only true r state token e = absurd cc
 refuses_only false r state token e = absurd cc
 
-blob_says : (t : TransferKey) (p : List Pair) (b token state given_token : List ℕ) → IsBytes b → IsGood (transfer_row t (Blob b) token) → said t p (row_of 4 (transfer_row t (Blob b) token)) ≡ Some (Given state given_token) → (b ≡ state) × (length b ≤ 1048576)
+blob_says : (t : TransferKey) (p : List Pair) (b token state given_token : List ℕ) → IsBytes b → IsGood (transfer_row t (Blob b) token) → said t p (row_of (transfer_row t (Blob b) token)) ≡ Some (Given state given_token) → (b ≡ state) × (length b ≤ 1048576)
 unfolding digits_row
 blob_says t p b token state given_token bytes good e =
     let r = row_read [] (encode_of standard b) token (key_digits t) good in
@@ -71,7 +65,7 @@ blob_says t p b token state given_token bytes good e =
     let m = and_parts (not (nat_lt 1048576 (length b))) (not (nat_lt 11900000 (length (packet p token)))) j.1 in
     (i.0, ltb-false 1048576 (length b) (not-true (nat_lt 1048576 (length b)) m.0))
 
-not_says : (t : TransferKey) (p : List Pair) (r token state given_token : List ℕ) → r ≢ [] → IsGood (transfer_row t (Not r) token) → said t p (row_of 4 (transfer_row t (Not r) token)) ≡ Some (Given state given_token) → ⊥
+not_says : (t : TransferKey) (p : List Pair) (r token state given_token : List ℕ) → r ≢ [] → IsGood (transfer_row t (Not r) token) → said t p (row_of (transfer_row t (Not r) token)) ≡ Some (Given state given_token) → ⊥
 unfolding digits_row
 not_says t p [] token state given_token some good e = some refl
 not_says t p (c ∷ cs) token state given_token some good e =
@@ -82,7 +76,7 @@ not_says t p (c ∷ cs) token state given_token some good e =
 
 -- a state that is accepted is what the session dumped
 pub says_dump : (t : TransferKey) (p : List Pair) (d : Dump) (token state given_token : List ℕ) → ((b : List ℕ) → d ≡ Blob b → IsBytes b) → ((r : List ℕ) → d ≡ Not r → r ≢ []) → IsGood (transfer_row t d token)
-    → said t p (row_of 4 (transfer_row t d token)) ≡ Some (Given state given_token) → (d ≡ Blob state) × (length state ≤ 1048576)
+    → said t p (row_of (transfer_row t d token)) ≡ Some (Given state given_token) → (d ≡ Blob state) × (length state ≤ 1048576)
 says_dump t p (Blob b) token state given_token bytes some good e =
     let r = blob_says t p b token state given_token (bytes b refl) good e in
     (ap Blob r.0, rw (← r.0) r.1)

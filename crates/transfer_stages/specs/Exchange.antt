@@ -1,6 +1,5 @@
 -- The exchange: what is sent and what is accepted, frame by frame.
-use Rattle.std.specs.Prelude.{ℕ, ◌+◌, ◌==◌, nat_lt, Bool, true, false, not, ◌&&◌, ◌||◌, List, [], ◌∷◌, ◌++◌, length, take, drop, Option, Some, None, if◌then◌else◌, codes}
-use Rattle.std.specs.Int.{w32, from_be_bytes}
+use Rattle.std.specs.Prelude.{ℕ, ◌+◌, ◌==◌, nat_lt, Bool, true, false, not, ◌&&◌, ◌||◌, List, [], ◌∷◌, ◌++◌, length, Option, Some, None, is_some, if◌then◌else◌, codes}
 use Rattle.std.specs.Str.{bytes_eq, is_utf8}
 use Rattle.std.specs.declared.result.Result.{Result}
 use Rattle.std.specs.declared.result.Result.TheVariants.{Ok, Err}
@@ -12,7 +11,11 @@ use Rattle.session_model.specs.Texts.{key_digits}
 use Rattle.pgw_messages.specs.declared.params.Pair.{Pair}
 use Rattle.session_model.specs.declared.transfer.TransferKey.{TransferKey}
 use Rattle.pgw_messages.specs.Startup.{startup_packet}
-use Rattle.transfer_stages.specs.Rows.{is_columns, is_fault, row_of}
+use Rattle.pgw_messages.specs.Spelling.{text_bytes}
+use Rattle.pgw_messages.specs.Tags as tag
+use Rattle.transfer_stages.specs.Rows.{auth_of, key_of, row_of, fault_of, has_names, has_one_column}
+use Rattle.pgw_messages.specs.declared.backend.auth.AuthMsg.{AuthMsg}
+use Rattle.pgw_messages.specs.declared.backend.fields.Field.{Field}
 use Rattle.pgw_messages.specs.declared.pod_key.PodKey.{PodKey}
 use Rattle.transfer_stages.specs.declared.stage.Cut.TheVariants.{Unexpected}
 use Rattle.transfer_stages.specs.declared.stage.Outcome.{Outcome}
@@ -24,9 +27,13 @@ use Rattle.transfer_stages.specs.declared.stage.Stage.TheVariants as at
 use Rattle.transfer_stages.specs.declared.stage.Want.{Want}
 use Rattle.transfer_stages.specs.declared.stage.Want.TheVariants as want
 
--- the startup packet of these parameters with a revival token
+-- these parameters with a revival token
+abbrev pub with_token : List Pair → List ℕ → List Pair
+with_token p token = p ++ record { name = codes "crdb:session_revival_token_base64"; value = token } ∷ []
+
+-- their startup packet
 unfoldable pub packet : List Pair → List ℕ → List ℕ
-packet p token = startup_packet (p ++ record { name = codes "crdb:session_revival_token_base64"; value = token } ∷ [])
+packet p token = startup_packet (with_token p token)
 
 -- ---- the old pod's row
 
@@ -67,17 +74,22 @@ said t p None = None
 -- ---- one frame
 
 abbrev pub is_ready_idle : Frame → Bool
-is_ready_idle f = (f.tag == 90) && bytes_eq f.body (73 ∷ [])
+is_ready_idle f = (f.tag == tag.ready_for_query) && bytes_eq f.body (73 ∷ [])
 
 -- a ReadyForQuery with one of its three bodies
 abbrev pub is_ready : Frame → Bool
-is_ready f = (f.tag == 90) && (is_ready_idle f || bytes_eq f.body (84 ∷ []) || bytes_eq f.body (69 ∷ []))
+is_ready f = (f.tag == tag.ready_for_query) && (is_ready_idle f || bytes_eq f.body (84 ∷ []) || bytes_eq f.body (69 ∷ []))
 
 abbrev pub is_tag : List ℕ → Frame → Bool
-is_tag text f = (f.tag == 67) && bytes_eq f.body (text ++ 0 ∷ [])
+is_tag text f = (f.tag == tag.command_complete) && bytes_eq f.body (text_bytes text)
 
-abbrev pub is_auth_ok : Frame → Bool
-is_auth_ok f = (f.tag == 82) && bytes_eq f.body (0 ∷ 0 ∷ 0 ∷ 0 ∷ [])
+abbrev pub has_code_0 : Option AuthMsg → Bool
+has_code_0 None = false
+has_code_0 (Some m) = m.code == 0
+
+-- an AuthenticationOk
+unfoldable pub is_auth_ok : Frame → Bool
+is_auth_ok f = has_code_0 (auth_of f)
 
 abbrev pub has_t : Option (List (Option (List ℕ))) → Bool
 has_t (Some (Some v ∷ [])) = bytes_eq v (codes "t")
@@ -92,9 +104,13 @@ transfer_names = codes "error" ∷ codes "session_state_base64" ∷ codes "sessi
 abbrev pub old_unexpected : Frame → Stage
 old_unexpected f = at.Ended (OldCut (Unexpected f))
 
+abbrev pub refusal : Frame → Option (List Field) → Outcome
+refusal f None = NewCut (Unexpected f)
+refusal f (Some fields) = RevivalRefused fields
+
 -- what comes from the new pod in place of what is expected
 abbrev pub new_unexpected : Frame → Stage
-new_unexpected f = at.Ended (if is_fault f then RevivalRefused f else NewCut (Unexpected f))
+new_unexpected f = at.Ended (refusal f (fault_of f))
 
 abbrev pub row_said : Frame → Option Said → Stage
 row_said f None = old_unexpected f
@@ -104,31 +120,28 @@ abbrev pub old_ends : Frame → Said → Stage
 old_ends f (Given state token) = if is_ready_idle f then at.Dial state token else old_unexpected f
 old_ends f (Refuses reason) = if is_ready f then at.Ended (Refused reason) else old_unexpected f
 
-abbrev pub pod_key : Frame → PodKey
-pod_key f = record { process = from_be_bytes w32 (take 4 f.body); secret = from_be_bytes w32 (drop 4 f.body) }
-
 -- a BackendKeyData where there was none yet
 abbrev pub keeps_key : List ℕ → ℕ → Frame → Option PodKey → Stage
 keeps_key state n f (Some key) = new_unexpected f
-keeps_key state n f None = if length f.body == 8 then at.NewStatus state n (Some (pod_key f)) else new_unexpected f
+keeps_key state n f None = if is_some (key_of f) then at.NewStatus state n (key_of f) else new_unexpected f
 
 abbrev pub greets : List ℕ → ℕ → Option PodKey → Frame → Stage
 greets state n key f =
-    if (f.tag == 83) && nat_lt n 1000 then at.NewStatus state (n + 1) key
-    else if f.tag == 75 then keeps_key state n f key
+    if (f.tag == tag.parameter_status) && nat_lt n 1000 then at.NewStatus state (n + 1) key
+    else if f.tag == tag.backend_key_data then keeps_key state n f key
     else if is_ready_idle f then at.Restore state key
     else new_unexpected f
 
 -- the exchange takes a frame
 unfoldable pub takes : TransferKey → List Pair → Stage → Frame → Stage
-takes t p at.OldColumns f = if is_columns transfer_names f then at.OldRow else old_unexpected f
-takes t p at.OldRow f = row_said f (said t p (row_of 4 f))
+takes t p at.OldColumns f = if has_names transfer_names f then at.OldRow else old_unexpected f
+takes t p at.OldRow f = row_said f (said t p (row_of f))
 takes t p (at.OldTag s) f = if is_tag (codes "SHOW TRANSFER STATE 1") f then at.OldReady s else old_unexpected f
 takes t p (at.OldReady s) f = old_ends f s
 takes t p (at.NewAuth state) f = if is_auth_ok f then at.NewStatus state 0 None else new_unexpected f
 takes t p (at.NewStatus state n key) f = greets state n key f
-takes t p (at.NewColumns key) f = if is_columns (codes "crdb_internal.deserialize_session" ∷ []) f then at.NewRow key else new_unexpected f
-takes t p (at.NewRow key) f = if has_t (row_of 1 f) then at.NewTag key else new_unexpected f
+takes t p (at.NewColumns key) f = if has_one_column f then at.NewRow key else new_unexpected f
+takes t p (at.NewRow key) f = if has_t (row_of f) then at.NewTag key else new_unexpected f
 takes t p (at.NewTag key) f = if is_tag (codes "SELECT 1") f then at.NewReady key else new_unexpected f
 takes t p (at.NewReady key) f = if is_ready_idle f then at.Ended (Moved key) else new_unexpected f
 takes t p at.AskOld f = at.AskOld

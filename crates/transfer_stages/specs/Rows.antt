@@ -1,72 +1,57 @@
--- Columns and values of a row, and the fields of an error, as they stand in messages (PostgreSQL manual, Message
--- Formats: RowDescription, DataRow, ErrorResponse).
-use Rattle.std.specs.Prelude.{ℕ, zero, suc, ◌==◌, nat_lt, Bool, true, false, ◌&&◌, List, [], ◌∷◌, length, take, drop, Option, Some, None, option_map, if◌then◌else◌}
-use Rattle.std.specs.Int.{w16, w32, from_be_bytes}
-use Rattle.std.specs.Str.{bytes_eq, is_utf8}
+-- What a message holds, where its type is the one that is read for.
+use Rattle.std.specs.Prelude.{ℕ, ◌==◌, Bool, true, false, ◌&&◌, List, [], ◌∷◌, Option, Some, None, if◌then◌else◌}
+use Rattle.std.specs.Result.{result_ok}
+use Rattle.std.specs.Str.{bytes_eq}
 use Rattle.pgw_frames.specs.declared.frame.Frame.{Frame}
+use Rattle.pgw_messages.specs.Backend.{auth_at, key_at, column_at}
+use Rattle.pgw_messages.specs.Fields.{fields_at}
+use Rattle.pgw_messages.specs.Reading.{Read, list_at, value_at, whole}
+use Rattle.pgw_messages.specs.Tags as tag
+use Rattle.pgw_messages.specs.declared.backend.auth.AuthMsg.{AuthMsg}
+use Rattle.pgw_messages.specs.declared.backend.columns.Column.{Column}
+use Rattle.pgw_messages.specs.declared.backend.fields.Field.{Field}
+use Rattle.pgw_messages.specs.declared.pod_key.PodKey.{PodKey}
 
-pub record Split : Type 0 where
-  pub text : List ℕ
-  pub more : List ℕ
+-- a message of this type that is read to its end
+abbrev pub read_of : {A : Type 0} → ℕ → (List ℕ → Read A) → Frame → Option A
+read_of t at f = if f.tag == t then result_ok (whole (at f.body)) else None
 
--- the text before the first zero byte, and what stands behind that byte
-abbrev pub zero_ended : List ℕ → Option Split
-zero_ended [] = None
-zero_ended (c ∷ b) = if c == 0 then Some (record { text = []; more = b }) else option_map (λ s. record { text = c ∷ s.text; more = s.more }) (zero_ended b)
+unfoldable pub auth_of : Frame → Option AuthMsg
+auth_of f = read_of tag.authentication auth_at f
 
-abbrev pub column_then : (List ℕ → Option (List (List ℕ))) → Option Split → Option (List (List ℕ))
-column_then others None = None
-column_then others (Some s) = if nat_lt (length s.more) 18 then None else option_map (λ ns. s.text ∷ ns) (others (drop 18 s.more))
+unfoldable pub key_of : Frame → Option PodKey
+key_of f = read_of tag.backend_key_data key_at f
 
--- the names of exactly so many columns
-abbrev pub columns : ℕ → List ℕ → Option (List (List ℕ))
-columns zero [] = Some []
-columns zero (c ∷ b) = None
-columns (suc n) b = column_then (columns n) (zero_ended b)
+unfoldable pub columns_of : Frame → Option (List Column)
+columns_of f = read_of tag.row_description (list_at column_at) f
 
-abbrev pub same_names : List (List ℕ) → List (List ℕ) → Bool
-same_names [] [] = true
-same_names [] (m ∷ ms) = false
-same_names (n ∷ ns) [] = false
-same_names (n ∷ ns) (m ∷ ms) = bytes_eq n m && same_names ns ms
+unfoldable pub row_of : Frame → Option (List (Option (List ℕ)))
+row_of f = read_of tag.data_row (list_at value_at) f
 
-abbrev pub has_names : List (List ℕ) → Option (List (List ℕ)) → Bool
-has_names names None = false
-has_names names (Some ns) = same_names names ns
+unfoldable pub fault_of : Frame → Option (List Field)
+fault_of f = read_of tag.error_response fields_at f
 
--- a value of n bytes, or none where n stands for NULL
-abbrev pub value_then : (List ℕ → Option (List (Option (List ℕ)))) → ℕ → List ℕ → Option (List (Option (List ℕ)))
-value_then others n b =
-    if n == 4294967295 then option_map (λ vs. None ∷ vs) (others b)
-    else if nat_lt (length b) n then None
-    else option_map (λ vs. Some (take n b) ∷ vs) (others (drop n b))
+-- ---- columns
 
--- exactly so many values
-abbrev pub values : ℕ → List ℕ → Option (List (Option (List ℕ)))
-values zero [] = Some []
-values zero (c ∷ b) = None
-values (suc n) b = if nat_lt (length b) 4 then None else value_then (values n) (from_be_bytes w32 (take 4 b)) (drop 4 b)
+abbrev pub are_named : List (List ℕ) → List Column → Bool
+are_named [] [] = true
+are_named [] (c ∷ cs) = false
+are_named (n ∷ ns) [] = false
+are_named (n ∷ ns) (c ∷ cs) = bytes_eq n c.name && are_named ns cs
 
--- whether a message is of this type and begins with this count
-abbrev pub counts : ℕ → ℕ → Frame → Bool
-counts tag n f = (f.tag == tag) && (from_be_bytes w16 (take 2 f.body) == n)
+abbrev pub have_names : List (List ℕ) → Option (List Column) → Bool
+have_names names None = false
+have_names names (Some cs) = are_named names cs
 
-unfoldable pub is_columns : List (List ℕ) → Frame → Bool
-is_columns names f = counts 84 (length names) f && has_names names (columns (length names) (drop 2 f.body))
+-- columns of just these names
+abbrev pub has_names : List (List ℕ) → Frame → Bool
+has_names names f = have_names names (columns_of f)
 
-unfoldable pub row_of : ℕ → Frame → Option (List (Option (List ℕ)))
-row_of n f = if counts 68 n f then values n (drop 2 f.body) else None
+abbrev pub is_one : Option (List Column) → Bool
+is_one None = false
+is_one (Some []) = false
+is_one (Some (c ∷ [])) = true
+is_one (Some (c ∷ d ∷ cs)) = false
 
-abbrev pub fields_then : (List ℕ → Bool) → Option Split → Bool
-fields_then others None = false
-fields_then others (Some s) = is_utf8 s.text && others s.more
-
--- fields of a type byte and a zero-ended text each, and a zero byte behind them
-abbrev pub are_fields : ℕ → List ℕ → Bool
-are_fields zero b = false
-are_fields (suc n) [] = false
-are_fields (suc n) (c ∷ b) = if c == 0 then length b == 0 else fields_then (are_fields n) (zero_ended b)
-
--- an ErrorResponse that can be read
-unfoldable pub is_fault : Frame → Bool
-is_fault f = (f.tag == 69) && are_fields (length f.body) f.body
+abbrev pub has_one_column : Frame → Bool
+has_one_column f = is_one (columns_of f)

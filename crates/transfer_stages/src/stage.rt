@@ -1,7 +1,7 @@
 //! How far a transfer has come.
 
 use pgw_frames::{Bytes, Frame, Text};
-use pgw_messages::PodKey;
+use pgw_messages::{OwnedFields, PodKey};
 
 /// Why a link was left.
 #[derive(Debug, Drop)]
@@ -20,7 +20,7 @@ pub enum Cut {
 pub enum Outcome {
     Moved(Option<PodKey>),
     Refused(Text),
-    RevivalRefused(Frame),
+    RevivalRefused(OwnedFields),
     DialFault,
     NewCut(Cut),
     OldCut(Cut),
@@ -29,7 +29,7 @@ pub enum Outcome {
 /// What the row of the old pod says: a state with a token, or why there is none.
 #[derive(Debug, Drop)]
 pub enum Said {
-    Given(Bytes, Bytes),
+    Given(Bytes, Text),
     Refuses(Text),
 }
 
@@ -41,8 +41,8 @@ pub enum Stage {
     OldTag(Said),
     OldReady(Said),
     /// with state and token
-    Dial(Bytes, Bytes),
-    Packet(Bytes, Bytes),
+    Dial(Bytes, Text),
+    Packet(Bytes, Text),
     /// with the state
     NewAuth(Bytes),
     /// with the state, how many ParameterStatus came, and the key

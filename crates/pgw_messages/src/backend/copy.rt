@@ -8,7 +8,7 @@ use crate::fault::MsgFault;
 use crate::numbers::Formats;
 use crate::reader::Reader;
 use crate::writer::Writer;
-use pgw_frames::{MOST_BODY, NoMemory};
+use pgw_frames::NoMemory;
 
 /// The server is ready for the data of a copy.
 #[derive(Debug, Drop)]
@@ -29,10 +29,8 @@ impl CopyMsg {
     }
 
     pub(crate) fn write(&self, w: &mut Writer) -> Result<(), NoMemory>
-        requires count { length self.now.formats ≤ 65535 }
-        requires room { length (copy_bytes self.now) ≤ MOST_BODY }
         ensures bytes { OnOk result (w.new ≡ w.old ++ copy_bytes self.now) }
-        ensures good { OnOk result (IsCopy self.now) }
+        ensures good { length self.now.formats ≤ 65535 → OnOk result (IsCopy self.now) }
     {
         w.u8(self.format)?;
         w.list(&self.formats)?;

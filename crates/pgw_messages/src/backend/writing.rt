@@ -36,9 +36,8 @@ fn tag_of(m: &BackMsg) -> u8
 }
 
 fn write_body(m: &BackMsg, w: &mut Writer) -> Result<(), NoMemory>
-    requires { CanWriteBack m.now }
     ensures bytes { OnOk result (w.new ≡ w.old ++ back_body m.now) }
-    ensures good { OnOk result (IsBack m.now) }
+    ensures good { CanWriteBack m.now → OnOk result (IsBack m.now) }
 {
     match m {
         BackMsg::Auth(auth) => auth.write(w),
@@ -61,20 +60,31 @@ fn write_body(m: &BackMsg, w: &mut Writer) -> Result<(), NoMemory>
     }
 }
 
-/// The frame that a server's message is. Its body has at most 16,777,216 bytes, its texts have no zero
-/// byte, each list that has a count at most 65,535 items, the state of ReadyForQuery is one of its
-/// letters, and no field's code is 0.
+/// The frame that a server's message is. The count of a longer list than 65,535 items has its low 16
+/// bits alone.
 pub fn write_back(alloc: Global, m: &BackMsg) -> Result<Frame, NoMemory>
-    requires { CanWriteBack m.now }
     // Which frame it is.
     ensures value { IfOk result (λ f. f ≡ back_frame m.now) }
-    // It is read as this message.
-    ensures again { IfOk result (λ f. back_of f ≡ Ok m.now) }
+    // It is read as this message, where its body has at most 16,777,216 bytes, its texts have no zero
+    // byte, each list that has a count has at most 65,535 items, the state of ReadyForQuery is one of
+    // its letters, and no field's code is 0.
+    ensures again { CanWriteBack m.now → IfOk result (λ f. back_of f ≡ Ok m.now) }
 {
-    let mut body = Writer::new(alloc);
+    let mut body = Writer::new(alloc)?;
     write_body(m, &mut body)?;
     Ok(Frame {
         tag: tag_of(m),
         body: body.into_bytes(),
     })
+}
+
+impl BackMsg {
+    /// The frame that the message is, where the message isn't needed any more.
+    pub fn into_frame(self, alloc: Global) -> Result<Frame, NoMemory>
+        ensures { IfOk result (λ f. f ≡ back_frame self) }
+    {
+        let frame = write_back(alloc, &self);
+        drop(self);
+        frame
+    }
 }

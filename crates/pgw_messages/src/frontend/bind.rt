@@ -2,15 +2,15 @@
 
 ghost use Rattle.std.specs.Prelude.{◌≡◌, ◌≤◌, ◌++◌, length, OnOk};
 ghost use Rattle.pgw_messages.specs.Reading.{Reads};
-ghost use Rattle.pgw_messages.specs.Frontend.{bind_at, bind_bytes, IsBind};
-ghost use Rattle.pgw_messages.specs.Spelling.{HasNoZero};
+ghost use Rattle.pgw_messages.specs.Frontend.{bind_at, bind_bytes, IsBind, CanWriteFront};
+ghost use Rattle.pgw_messages.specs.declared.frontend.message.FrontMsg.TheVariants as front;
 
 use crate::fault::MsgFault;
 use crate::numbers::Formats;
 use crate::reader::Reader;
 use crate::values::Row;
 use crate::writer::Writer;
-use pgw_frames::{Bytes, MOST_BODY, NoMemory, Text};
+use pgw_frames::{Bytes, NoMemory, Text};
 
 /// Binds values to a prepared statement, which makes a portal.
 #[derive(Debug, Drop)]
@@ -45,12 +45,8 @@ impl BindMsg {
     }
 
     pub(crate) fn write(&self, w: &mut Writer) -> Result<(), NoMemory>
-        requires formats { length self.now.formats ≤ 65535 }
-        requires values { length self.now.values ≤ 65535 }
-        requires results { length self.now.results ≤ 65535 }
-        requires room { length (bind_bytes self.now) ≤ MOST_BODY }
         ensures bytes { OnOk result (w.new ≡ w.old ++ bind_bytes self.now) }
-        ensures good { OnOk result (HasNoZero self.now.portal → HasNoZero self.now.statement → IsBind self.now) }
+        ensures good { CanWriteFront (front.Bind self.now) → OnOk result (IsBind self.now) }
     {
         w.text(&self.portal)?;
         w.text(&self.statement)?;

@@ -9,7 +9,7 @@ use crate::fault::MsgFault;
 use crate::numbers::Types;
 use crate::reader::Reader;
 use crate::writer::Writer;
-use pgw_frames::{MOST_BODY, NoMemory, Text};
+use pgw_frames::{NoMemory, Text};
 
 /// Prepares a statement.
 #[derive(Debug, Drop)]
@@ -32,10 +32,8 @@ impl ParseMsg {
     }
 
     pub(crate) fn write(&self, w: &mut Writer) -> Result<(), NoMemory>
-        requires count { length self.now.types ≤ 65535 }
-        requires room { length (parse_bytes self.now) ≤ MOST_BODY }
         ensures bytes { OnOk result (w.new ≡ w.old ++ parse_bytes self.now) }
-        ensures good { OnOk result (HasNoZero self.now.name → HasNoZero self.now.query → IsParse self.now) }
+        ensures good { HasNoZero self.now.name → HasNoZero self.now.query → length self.now.types ≤ 65535 → OnOk result (IsParse self.now) }
     {
         w.text(&self.name)?;
         w.text(&self.query)?;

@@ -30,9 +30,8 @@ fn tag_of(m: &FrontMsg) -> u8
 }
 
 fn write_body(m: &FrontMsg, w: &mut Writer) -> Result<(), NoMemory>
-    requires { CanWriteFront m.now }
     ensures bytes { OnOk result (w.new ≡ w.old ++ front_body m.now) }
-    ensures good { OnOk result (IsFront m.now) }
+    ensures good { CanWriteFront m.now → OnOk result (IsFront m.now) }
 {
     match m {
         FrontMsg::Query(text) | FrontMsg::CopyFail(text) => w.text(text),
@@ -47,19 +46,30 @@ fn write_body(m: &FrontMsg, w: &mut Writer) -> Result<(), NoMemory>
     }
 }
 
-/// The frame that a client's message is. Its body has at most 16,777,216 bytes, its texts have no zero
-/// byte, each list at most 65,535 items, and `kind` is one of its letters.
+/// The frame that a client's message is. The count of a longer list than 65,535 items has its low 16
+/// bits alone.
 pub fn write_front(alloc: Global, m: &FrontMsg) -> Result<Frame, NoMemory>
-    requires { CanWriteFront m.now }
     // Which frame it is.
     ensures value { IfOk result (λ f. f ≡ front_frame m.now) }
-    // It is read as this message.
-    ensures again { IfOk result (λ f. front_of f ≡ Ok m.now) }
+    // It is read as this message, where its body has at most 16,777,216 bytes, its texts have no zero
+    // byte, each list has at most 65,535 items, and `kind` is one of its letters.
+    ensures again { CanWriteFront m.now → IfOk result (λ f. front_of f ≡ Ok m.now) }
 {
-    let mut body = Writer::new(alloc);
+    let mut body = Writer::new(alloc)?;
     write_body(m, &mut body)?;
     Ok(Frame {
         tag: tag_of(m),
         body: body.into_bytes(),
     })
+}
+
+impl FrontMsg {
+    /// The frame that the message is, where the message isn't needed any more.
+    pub fn into_frame(self, alloc: Global) -> Result<Frame, NoMemory>
+        ensures { IfOk result (λ f. f ≡ front_frame self) }
+    {
+        let frame = write_front(alloc, &self);
+        drop(self);
+        frame
+    }
 }

@@ -1,22 +1,37 @@
 use crate::{MsgFault, Params, read_params, startup_bytes};
+use pgw_frames::NoMemory;
+use std::alloc::Global;
 use std::test::*;
 
+/// Parameters that are put one after the other.
+fn params(alloc: Global, rows: &[(&str, &str)]) -> Result<Params, NoMemory> {
+    let mut p = Params::new(alloc);
+    for (name, value) in rows {
+        p.put(name, value)?;
+    }
+    Ok(p)
+}
+
+/// Whether this pair stands at this place.
+fn has(p: &Params, place: usize, name: &str, value: &str) -> bool {
+    match p.get(place) {
+        Some(pair) => pair.name.as_str() == name && pair.value.as_str() == value,
+        None => false,
+    }
+}
+
 #[test]
-fn a_later_value_keeps_the_first_place(rt: HostRuntime) -> Result<(), Fail> {
-    let mut p = Params::new(rt.alloc());
-    assert!(rt; p.is_empty());
-    p.put("user", "a")?;
-    p.put("database", "d")?;
-    p.put("user", "b")?;
-    assert_eq!(rt; p.len(), 2);
-    assert_eq!(rt; p.get(0).map(|q| q.value.as_str() == "b"), Some(true));
-    assert_eq!(rt; p.value("database").map(|v| v == "d"), Some(true));
-    assert!(rt; p.value("options").is_none());
+fn a_later_value_keeps_the_first_place(rt: HostRuntime) -> Result<(), NoMemory> {
+    let rows = [("user", "a"), ("database", "d"), ("user", "b")];
+    let p = params(rt.alloc(), &rows)?;
+    assert!(rt; p.len() == 2 && !p.is_empty());
+    assert!(rt; has(&p, 0, "user", "b") && has(&p, 1, "database", "d"));
+    assert!(rt; p.value("database") == Some("d") && p.value("options").is_none());
     Ok(())
 }
 
 #[test]
-fn the_startup_packet(rt: HostRuntime) -> Result<(), Fail> {
+fn the_startup_packet(rt: HostRuntime) -> Result<(), NoMemory> {
     let mut p = Params::new(rt.alloc());
     p.put("user", "u")?;
     p.put("database", "d")?;
@@ -27,19 +42,16 @@ fn the_startup_packet(rt: HostRuntime) -> Result<(), Fail> {
 }
 
 #[test]
-fn parameters_with_a_name_twice(rt: HostRuntime) -> Result<(), Fail> {
-    let p = read_params(
-        rt.alloc(),
-        b"user\0a\0database\0d\0user\0b\0database\0e\0\0",
-    )?;
-    assert_eq!(rt; p.len(), 2);
-    assert_eq!(rt; p.get(0).map(|q| q.value.as_str() == "b"), Some(true));
-    assert_eq!(rt; p.get(1).map(|q| q.value.as_str() == "e"), Some(true));
+fn parameters_with_a_name_twice(rt: HostRuntime) -> Result<(), MsgFault> {
+    let body = b"user\0a\0database\0d\0user\0b\0database\0e\0\0";
+    let p = read_params(rt.alloc(), body)?;
+    assert!(rt; p.len() == 2);
+    assert!(rt; has(&p, 0, "user", "b") && has(&p, 1, "database", "e"));
     Ok(())
 }
 
 #[test]
-fn faults_of_parameters(rt: HostRuntime) -> Result<(), Fail> {
+fn faults_of_parameters(rt: HostRuntime) {
     let rows: [(&[u8], Option<MsgFault>); 11] = [
         (b"\0", None),
         (b"user\0\0\0", None),
@@ -57,5 +69,4 @@ fn faults_of_parameters(rt: HostRuntime) -> Result<(), Fail> {
     for (body, want) in rows {
         assert_eq!(rt; read_params(rt.alloc(), body).err(), want, "{body:?}");
     }
-    Ok(())
 }

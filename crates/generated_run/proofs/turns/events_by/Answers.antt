@@ -4,7 +4,6 @@ use Rattle.std.specs.List.{AllByRecursion}
 use Rattle.std.proofs.lemmas.Fmt.{length-decimal-le}
 use Rattle.std.proofs.lemmas.List.{length-append}
 use Rattle.pgw_frames.specs.Frames.{IsGood}
-use Rattle.generated_run.specs.Generated.{queries}
 use Rattle.generated_run.proofs.turns.events_by.Goals as goal
 
 pub sends-requires-in_default-clause-good : goal.sends-requires-in_default-clause-good

@@ -1,6 +1,6 @@
 use Rattle.std.proofs.Common.{refl}
 use Rattle.std.proofs.lemmas.Str.{is_utf8-from_IsUtf8}
-use Rattle.transfer_exchange.proofs.ZeroEnded.{not_utf8}
+use Rattle.transfer_exchange.proofs.Taking.{not_utf8}
 use Rattle.transfer_exchange.proofs.said.refused.Goals as goal
 
 pub returns-in_ok-of-in-Ok : goal.returns-in_ok-of-in-Ok

@@ -9,14 +9,14 @@ use Rattle.forwarder_core.proofs.link.Link.begin.Goals as goal
 pub returns : goal.returns
 returns g c m held h =
     let k = g.S.Session.kind in
-    let p = c.args.opening.now in
+    let p = c.args.startup.now in
     let more : List ℕ = render (k.begins p).1 in
-    let opening : c.args.self.now.opening ≡ true = let no = c.if-not-self.false in cc in
-    let some : nat_lt 0 (length m.opening) ≡ true = sym h.opening ∙ opening in
-    let none : length m.opening - m.delivered ≡ 0 = let z = c.if-self-gt0.false in let u = h.unopened in omega arith in
+    let startup : c.args.self.now.startup ≡ true = let no = c.if-not-self.false in cc in
+    let some : nat_lt 0 (length m.startup) ≡ true = sym h.startup ∙ startup in
+    let none : length m.startup - m.delivered ≡ 0 = let z = c.if-self-gt0.false in let u = h.unopened in omega arith in
     let greeting = c.in_ok-session.ensures.frames in
     rw (begun_is k g.S.Store.Machine.rules m g.S.Store.Machine.rules.first p some none) (record {
-      opening = h.opening;
+      startup = h.startup;
       unopened = h.unopened;
       pod = h.pod;
       bound = omega (arith, h.bound, length-append m.got more);

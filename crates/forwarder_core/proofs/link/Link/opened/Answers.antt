@@ -6,10 +6,10 @@ use Rattle.forwarder_core.proofs.link.Link.opened.Goals as goal
 
 pub returns : goal.returns
 returns g c =
-    let p = c.args.opening.now in
+    let p = c.args.startup.now in
     let packet = startup_packet p in
     record {
-      opening = sym (some_packet p);
+      startup = sym (some_packet p);
       unopened = sym (sub_self (length packet));
       pod = ([], refl, rw (sub_self (length packet)) c.new.ensures);
       bound = omega arith;

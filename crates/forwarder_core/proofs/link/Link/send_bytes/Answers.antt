@@ -3,9 +3,9 @@ use Rattle.forwarder_core.proofs.link.Link.send_bytes.Goals as goal
 
 pub returns : goal.returns
 returns g c m held h = record {
-  opening = h.opening;
+  startup = h.startup;
   unopened = h.unopened;
-  pod = (h.pod.0, h.pod.1, c.in_ok-give.ensures m.sent (m.delivered - length m.opening) h.pod.0 h.pod.2);
+  pod = (h.pod.0, h.pod.1, c.in_ok-give.ensures m.sent (m.delivered - length m.startup) h.pod.0 h.pod.2);
   bound = h.bound;
   replies = h.replies;
   reads = h.reads;

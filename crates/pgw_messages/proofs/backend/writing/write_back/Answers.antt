@@ -6,4 +6,4 @@ pub returns-clause-value : goal.returns-clause-value
 returns-clause-value c = search rules
 
 pub returns-clause-again : goal.returns-clause-again
-returns-clause-again c = back_read c.args.m.now _ c.in_ok-write_body.ensures.good (returns-clause-value c)
+returns-clause-again c = λ h. back_read c.args.m.now _ (c.in_ok-write_body.ensures.good h) (returns-clause-value c)

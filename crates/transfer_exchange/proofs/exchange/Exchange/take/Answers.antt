@@ -15,11 +15,11 @@ went c =
     let key = c.self.inside.key in
     let params = c.self.inside.params in
     c.put.ensures
-    ∙ c.behind_frame.ensures key params (λ e. c.in_ok-said.ensures.ok (sym c.replace-stage.ensures.value ∙ e))
+    ∙ c.after_frame.ensures key params (λ e. c.in_ok-said.ensures.ok (sym c.replace-stage.ensures.value ∙ e))
     ∙ ap (λ (x : Stage). takes key params x c.args.f) c.replace-stage.ensures.value
 
 pub invariant_of-self : goal.invariant_of-self
-invariant_of-self c = subst (IsWithin c.self.inside.params) (sym (went c)) (takes_within c.self.inside.key c.self.inside.params c.self.inside.stage c.args.f c.self.invariant)
+invariant_of-self c = (subst (IsWithin c.self.inside.params) (sym (went c)) (takes_within c.self.inside.key c.self.inside.params c.self.inside.stage c.args.f c.self.invariant.0), c.self.invariant.1)
 
 pub returns-clause-ok : goal.returns-clause-ok
 returns-clause-ok c =

@@ -16,6 +16,7 @@ use Rattle.session_model.specs.Heard.{has_ready}
 use Rattle.session_model.specs.Texts.{transfer_query, restore_query}
 use Rattle.session_model.specs.declared.transfer.TransferKey.{TransferKey}
 use Rattle.transfer_stages.specs.Exchange as exchange
+use Rattle.transfer_stages.specs.Exchange.{with_token}
 use Rattle.transfer_stages.specs.declared.stage.Cut.TheVariants.{WriteFault, Ended}
 use Rattle.transfer_stages.specs.declared.stage.Outcome.{Outcome}
 use Rattle.transfer_stages.specs.declared.stage.Outcome.TheVariants as outcome
@@ -24,7 +25,7 @@ use Rattle.transfer_stages.specs.declared.stage.Stage.TheVariants as at
 use Rattle.forwarder_world.specs.Link as link
 use Rattle.forwarder_world.specs.Link.{Link}
 use Rattle.forwarder_world.specs.World.{World, Mode, Running, Stop, Exchanging, Closed, start, forwarding, passing, may_give, gives, reads, closes, client_ends, hands_out, writes, forwards, passes, pod_takes, pod_takes_client, pod_takes_own, stops, parks, holds, begins, moved, fails, comes_to, arrives, arrives_by, awaits_old, awaits_new, awaits_new_by, sends_new, dials, moves_at, moves, changes_new, new_hears, new_pod_by, new_pod, steps, is_closed, happens, run}
-use Rattle.forwarder_world.specs.Opening.{IsOpening, BeganBy, Opens, with_token}
+use Rattle.forwarder_world.specs.Startups.{IsStartup, BeganBy, Opens}
 use Rattle.forwarder_world.specs.declared.event.Event.{Event}
 use Rattle.forwarder_world.specs.declared.event.Event.TheVariants as event
 use Rattle.forwarder_world.specs.declared.event.Close.TheVariants.{Bye, ClientCut, PodEnded, PodWrite}
@@ -33,17 +34,17 @@ read_again : (p : List Pair) → HasDistinctNames p → AllByRecursion IsParam p
 unfolding startup_packet
 read_again p d a = let r = params_again p d a in ap (λ (b : List ℕ). params_of (drop 4 b)) r.0 ∙ r.1
 
-pub plain_opening : (p : List Pair) → IsOpening p (startup_packet p)
-plain_opening p = record { told = p; adds = inl refl; packet = refl; is_read = read_again p }
+pub plain_startup : (p : List Pair) → IsStartup p (startup_packet p)
+plain_startup p = record { told = p; adds = inl refl; packet = refl; is_read = read_again p }
 
-pub token_opening : (p : List Pair) (token : List ℕ) → IsOpening p (exchange.packet p token)
+pub token_startup : (p : List Pair) (token : List ℕ) → IsStartup p (exchange.packet p token)
 unfolding exchange.packet
-token_opening p token = record { told = with_token p token; adds = inr (token, refl); packet = refl; is_read = read_again (with_token p token) }
+token_startup p token = record { told = with_token p token; adds = inr (token, refl); packet = refl; is_read = read_again (with_token p token) }
 
 module _ {S T C R : Type 0} (k : Kind S C R) (rules : Rules T C R) (key : ClientKey) (p : List Pair) where
   -- nothing was sent on it, and no session has begun, or the packet was
   abbrev Sent : Link S → Type 0
-  Sent l = ((l.opening ≡ []) × (l.session ≡ None)) ⊎ IsOpening p l.opening
+  Sent l = ((l.startup ≡ []) × (l.session ≡ None)) ⊎ IsStartup p l.startup
 
   abbrev OnFresh : Option (Link S) → Type 0
   OnFresh None = Unit {0}
@@ -62,9 +63,9 @@ module _ {S T C R : Type 0} (k : Kind S C R) (rules : Rules T C R) (key : Client
 
   beginning : (l : Link S) → Sent l → Sent (link.begins k p l)
   beginning l (inr i) =
-      cond_both (nat_lt 0 (length l.opening) && not (nat_lt l.delivered (length l.opening))) (record l { got = l.got ++ render (k.begins p).1; session = Some (k.begins p).0 }) l Sent (λ c. inr i) (λ c. inr i)
+      cond_both (nat_lt 0 (length l.startup) && not (nat_lt l.delivered (length l.startup))) (record l { got = l.got ++ render (k.begins p).1; session = Some (k.begins p).0 }) l Sent (λ c. inr i) (λ c. inr i)
   beginning l (inl n) =
-      subst (λ (b : Bool). Sent (if b && not (nat_lt l.delivered (length l.opening)) then record l { got = l.got ++ render (k.begins p).1; session = Some (k.begins p).0 } else l))
+      subst (λ (b : Bool). Sent (if b && not (nat_lt l.delivered (length l.startup)) then record l { got = l.got ++ render (k.begins p).1; session = Some (k.begins p).0 } else l))
       (sym (ap (λ (b : List ℕ). nat_lt 0 (length b)) n.0)) (inl n)
 
   -- ---- an exchange
@@ -115,7 +116,7 @@ module _ {S T C R : Type 0} (k : Kind S C R) (rules : Rules T C R) (key : Client
   moving_at w t (at.OldTag s) h = old_awaiting w t (at.OldTag s) (link.next_of_got w.link) h
   moving_at w t (at.OldReady s) h = old_awaiting w t (at.OldReady s) (link.next_of_got w.link) h
   moving_at w t (at.Dial state token) h = dialing w t (at.Packet state token) h
-  moving_at w t (at.Packet state token) h = new_sending w t (λ l. link.opens l (exchange.packet p token)) (at.NewAuth state) w.fresh refl (λ l s. inr (token_opening p token)) h
+  moving_at w t (at.Packet state token) h = new_sending w t (λ l. link.opens l (exchange.packet p token)) (at.NewAuth state) w.fresh refl (λ l s. inr (token_startup p token)) h
   moving_at w t (at.NewAuth state) h = new_awaiting w t (at.NewAuth state) w.fresh refl h
   moving_at w t (at.NewStatus state n m) h = new_awaiting w t (at.NewStatus state n m) w.fresh refl h
   moving_at w t (at.Restore state m) h = new_sending w t (λ l. link.sends l (restore_query state)) (at.NewColumns m) w.fresh refl (λ l s. s) h
@@ -228,5 +229,5 @@ module _ {S T C R : Type 0} (k : Kind S C R) (rules : Rules T C R) (key : Client
   pub opens : (es : List (Event C)) → Opens p (run k rules key p (start k rules p) es)
   opens es =
       let w : World S T C = run k rules key p (start k rules p) es in
-      let h : O w = running (start k rules p) es (inr (plain_opening p), tt) in
+      let h : O w = running (start k rules p) es (inr (plain_startup p), tt) in
       record { link = began w.link h.0; fresh = λ l e. began l (fresh_sent w l e h) }

@@ -8,11 +8,11 @@ use std::marker::Model;
 
 /// The parameters of a session, as a World may start with them. Contracts see the parameters.
 #[derive(Drop)]
-pub(crate) struct Opening {
+pub(crate) struct Startup {
     params: Params,
 }
 
-impl Model for Opening {
+impl Model for Startup {
     ghost use Rattle.std.specs.Prelude.{List};
     ghost use Rattle.forwarder_core.specs.Starting.{CanStart};
     ghost use Rattle.pgw_messages.specs.declared.params.Pair.{Pair};
@@ -24,12 +24,12 @@ impl Model for Opening {
     ghost invariant = { λ o. CanStart o.params };
 }
 
-impl Opening {
-    pub fn new(params: Params) -> Opening
+impl Startup {
+    pub fn new(params: Params) -> Startup
         requires { CanStart params }
         ensures { result ≡ params }
     {
-        Opening { params }
+        Startup { params }
     }
 
     pub fn params(&self) -> &Params

@@ -1,11 +1,11 @@
 use Rattle.std.proofs.Common.{ap, sym, ◌∙◌}
 use Rattle.transfer_stages.specs.Exchange.{row_said, takes}
 use Rattle.transfer_stages.specs.declared.stage.Stage.{Stage}
-use Rattle.transfer_exchange.proofs.stages.behind_frame.Goals as goal
+use Rattle.transfer_exchange.proofs.stages.after_frame.Goals as goal
 
 pub returns-in-OldRow : goal.returns-in-OldRow
 unfolding takes
-returns-in-OldRow c = λ t p h. c.behind_row.ensures ∙ ap (row_said c.args.f) (h c.in-OldRow.is) ∙ sym (ap (λ (x : Stage). takes t p x c.args.f) c.in-OldRow.is)
+returns-in-OldRow c = λ t p h. c.after_row.ensures ∙ ap (row_said c.args.f) (h c.in-OldRow.is) ∙ sym (ap (λ (x : Stage). takes t p x c.args.f) c.in-OldRow.is)
 
 pub returns-in-AskOld : goal.returns-in-AskOld
 unfolding takes
