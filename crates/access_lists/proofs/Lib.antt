@@ -1,4 +1,4 @@
-pub mod Barring
+pub mod Listed
 pub mod Places
 pub mod ColonHex
 pub mod Slashes

@@ -9,6 +9,8 @@
 #![tactic(auto)]
 
 mod address_text;
+mod allow_list;
+mod by_tenant;
 mod deny;
 mod fault;
 mod laws;

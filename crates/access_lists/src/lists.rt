@@ -1,8 +1,9 @@
 //! The deny entries and the allow lists, and their verdict.
 
-ghost use Rattle.std.specs.Prelude.{◌≡◌, [], ◌∷◌, ◌++◌, position, filter, OnOk, OnErr, IfOk};
-ghost use Rattle.access_lists.specs.Verdicts.{Entries, matches, admits, is_of, is_barred, verdict};
+ghost use Rattle.std.specs.Prelude.{◌≡◌, [], ◌∷◌, ◌++◌, position, OnOk, OnErr, IfOk};
+ghost use Rattle.access_lists.specs.Verdicts.{Entries, matches, verdict};
 
+use crate::by_tenant::ByTenant;
 use crate::deny::Deny;
 use crate::net::Net;
 use crate::verdict::Verdict;
@@ -18,30 +19,24 @@ pub struct Allow {
     pub net: Option<Net>,
 }
 
-impl Allow {
-    fn admits(&self, addr: &Addr) -> bool
-        ensures { result ≡ admits addr.now self.now }
-    {
-        match &self.net {
-            Some(net) => net.has(addr),
-            None => false,
-        }
-    }
-}
-
 /// Deny entries and allow entries, each in the order in which they were added.
 #[derive(Debug, Drop)]
 pub struct Lists {
     denies: Vec<Deny>,
     allows: Vec<Allow>,
+    /// The allow entries once more, so that a verdict looks at one tenant's.
+    by_tenant: ByTenant,
 }
 
 impl Model for Lists {
     ghost use Rattle.access_lists.specs.Verdicts.{Entries};
+    ghost use Rattle.access_lists.specs.Indexes.{Indexes};
 
     ghost Value = { Entries };
 
     ghost view = { λ l. record { denies = l.denies.items; allows = l.allows.items } };
+
+    ghost invariant = { λ l. Indexes l.by_tenant l.allows.items };
 }
 
 /// The place of the first entry that matches.
@@ -49,22 +44,6 @@ fn first_match(denies: &[Deny], addr: &Addr, tenant: TenantId, now: u64) -> Opti
     ensures { result ≡ position (matches addr.now tenant now) denies.now }
 {
     denies.iter().position(|d| d.matches(addr, tenant, now))
-}
-
-/// Whether the tenant has an allow list that leaves the address out.
-fn bars(allows: &[Allow], addr: &Addr, tenant: TenantId) -> bool
-    ensures { result ≡ is_barred addr.now (filter (is_of tenant) allows.now) }
-{
-    let mut is_listed = false;
-    for allow in allows {
-        if allow.tenant == tenant {
-            if allow.admits(addr) {
-                return false;
-            }
-            is_listed = true;
-        }
-    }
-    is_listed
 }
 
 impl Lists {
@@ -75,6 +54,7 @@ impl Lists {
         Lists {
             denies: Vec::new(alloc),
             allows: Vec::new(alloc),
+            by_tenant: ByTenant::new(alloc),
         }
     }
 
@@ -93,19 +73,22 @@ impl Lists {
         ensures ok { OnOk result (self.new ≡ record self.old { allows = self.old.allows ++ record { tenant = tenant; net = net } ∷ [] }) }
         ensures err { OnErr result (self.new ≡ self.old) }
     {
-        self.allows.push(Allow { tenant, net })?;
+        let alloc = *self.allows.allocator();
+        self.allows.reserve(1)?;
+        self.by_tenant.add(alloc, tenant, net)?;
+        self.allows.push_reserved(Allow { tenant, net });
         Ok(())
     }
 
-    /// The verdict on a client of this address and tenant, at this moment in seconds. It takes no
-    /// memory.
+    /// The verdict on a client of this address and tenant, at this moment in seconds. It looks at the
+    /// deny entries in their order, and of the allow entries at this tenant's alone. It takes no memory.
     pub fn judge(&self, addr: &Addr, tenant: TenantId, now: u64) -> Verdict
         ensures { result ≡ verdict self.now addr.now tenant now }
     {
         if let Some(place) = first_match(self.denies.as_slice(), addr, tenant, now) {
             return Verdict::Denied(u32::try_from(place).unwrap_or(u32::MAX));
         }
-        if bars(self.allows.as_slice(), addr, tenant) {
+        if self.by_tenant.bars(addr, tenant) {
             return Verdict::NotAllowed;
         }
         Verdict::Pass
@@ -123,6 +106,7 @@ impl Lists {
         Ok(Lists {
             denies,
             allows: Vec::from_slice(alloc, self.allows.as_slice())?,
+            by_tenant: ByTenant::of(alloc, self.allows.as_slice())?,
         })
     }
 }

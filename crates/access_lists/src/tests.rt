@@ -1,5 +1,5 @@
 use super::*;
-use pgw_frames::Text;
+use pgw_frames::{NoMemory, Text};
 use proxy_outside::{Addr, TenantId};
 use std::alloc::Global;
 use std::test::*;
@@ -136,7 +136,7 @@ fn a_prefix_past_the_end(rt: HostRuntime) {
     assert!(rt; !net.has(&Addr::V4(0x0a01_0202)));
 }
 
-fn deny(alloc: Global, who: Who, until: Option<u64>) -> Result<Deny, Fail> {
+fn deny(alloc: Global, who: Who, until: Option<u64>) -> Result<Deny, NoMemory> {
     Ok(Deny {
         who,
         until,
@@ -156,53 +156,84 @@ const HOME: Net = Net {
     prefix: 16,
 };
 
-#[test]
-fn an_entry_and_an_allow_list(rt: HostRuntime) -> Result<(), Fail> {
-    let alloc = rt.alloc();
+/// A tenant's allow entry.
+type Entry = (TenantId, Option<Net>);
+
+/// A client's address and tenant, and the moment.
+type Client = (Addr, TenantId, u64);
+
+/// Lists to which these entries were added.
+fn added(
+    alloc: Global,
+    denies: &[(Who, Option<u64>)],
+    allows: &[Entry],
+) -> Result<Lists, NoMemory> {
     let mut lists = Lists::new(alloc);
-    assert_eq!(rt; lists.judge(&CLIENT, TenantId(7), 0), Verdict::Pass);
-    lists.add_deny(deny(alloc, Who::Network(TEN), Some(1_000))?)?;
-    assert_eq!(rt; lists.judge(&CLIENT, TenantId(7), 999), Verdict::Denied(0));
-    assert_eq!(rt; lists.judge(&CLIENT, TenantId(7), 1_000), Verdict::Pass);
-    lists.add_allow(TenantId(7), Some(HOME))?;
-    assert_eq!(rt; lists.judge(&CLIENT, TenantId(7), 999), Verdict::Denied(0));
-    assert_eq!(rt;
-        lists.judge(&CLIENT, TenantId(7), 1_000),
-        Verdict::NotAllowed
-    );
-    assert_eq!(rt; lists.judge(&CLIENT, TenantId(8), 1_000), Verdict::Pass);
-    lists.add_allow(TenantId(7), Some(TEN))?;
-    assert_eq!(rt; lists.judge(&CLIENT, TenantId(7), 1_000), Verdict::Pass);
-    lists.add_allow(TenantId(7), None)?;
-    assert_eq!(rt; lists.judge(&CLIENT, TenantId(7), 1_000), Verdict::Pass);
-    lists.add_allow(TenantId(8), None)?;
-    assert_eq!(rt;
-        lists.judge(&CLIENT, TenantId(8), 1_000),
-        Verdict::NotAllowed
-    );
-    Ok(())
+    for (who, until) in denies {
+        lists.add_deny(deny(alloc, *who, *until)?)?;
+    }
+    for (tenant, net) in allows {
+        lists.add_allow(*tenant, *net)?;
+    }
+    Ok(lists)
+}
+
+/// The verdicts of these entries and of a copy.
+fn judged(
+    alloc: Global,
+    denies: &[(Who, Option<u64>)],
+    allows: &[Entry],
+    client: Client,
+) -> Result<[Verdict; 2], NoMemory> {
+    let (addr, tenant, now) = client;
+    let lists = added(alloc, denies, allows)?;
+    let verdict = lists.judge(&addr, tenant, now);
+    let copy = lists.copy();
+    drop(lists);
+    Ok([verdict, copy?.judge(&addr, tenant, now)])
 }
 
 #[test]
-fn the_first_entry_that_matches(rt: HostRuntime) -> Result<(), Fail> {
-    let alloc = rt.alloc();
-    let mut lists = Lists::new(alloc);
-    lists.add_deny(deny(alloc, Who::Network(HOME), None)?)?;
-    lists.add_deny(deny(alloc, Who::Tenant(TenantId(7)), Some(1_000))?)?;
-    lists.add_deny(deny(alloc, Who::Network(TEN), None)?)?;
-    lists.add_deny(deny(alloc, Who::Tenant(TenantId(9)), None)?)?;
-    let copy = lists.copy()?;
-    for lists in [&lists, &copy] {
-        assert_eq!(rt; lists.judge(&CLIENT, TenantId(7), 999), Verdict::Denied(1));
-        assert_eq!(rt;
-            lists.judge(&CLIENT, TenantId(7), 1_000),
-            Verdict::Denied(2)
-        );
-        assert_eq!(rt;
-            lists.judge(&Addr::V6(0), TenantId(9), 0),
-            Verdict::Denied(3)
-        );
-        assert_eq!(rt; lists.judge(&Addr::V6(0), TenantId(8), 0), Verdict::Pass);
+fn an_entry_and_an_allow_list(rt: HostRuntime) {
+    let denies = [(Who::Network(TEN), Some(1_000))];
+    let home = (TenantId(7), Some(HOME));
+    let ten = (TenantId(7), Some(TEN));
+    let none = (TenantId(7), None);
+    let others = (TenantId(8), None);
+    let rows: [(&[Entry], u32, u64, Verdict); 9] = [
+        (&[], 7, 999, Verdict::Denied(0)),
+        (&[], 7, 1_000, Verdict::Pass),
+        (&[home], 7, 999, Verdict::Denied(0)),
+        (&[home], 7, 1_000, Verdict::NotAllowed),
+        (&[home], 8, 1_000, Verdict::Pass),
+        (&[home, ten], 7, 1_000, Verdict::Pass),
+        (&[home, ten, none], 7, 1_000, Verdict::Pass),
+        (&[others, home, none, ten], 8, 1_000, Verdict::NotAllowed),
+        (&[others, home, none, ten], 7, 1_000, Verdict::Pass),
+    ];
+    for (allows, tenant, now, want) in rows {
+        let client = (CLIENT, TenantId(tenant), now);
+        let verdicts = judged(rt.alloc(), &denies, allows, client);
+        assert_eq!(rt; verdicts, Ok([want; 2]), "at {allows:?} {tenant} {now}");
     }
-    Ok(())
+}
+
+#[test]
+fn the_first_entry_that_matches(rt: HostRuntime) {
+    let denies = [
+        (Who::Network(HOME), None),
+        (Who::Tenant(TenantId(7)), Some(1_000)),
+        (Who::Network(TEN), None),
+        (Who::Tenant(TenantId(9)), None),
+    ];
+    let rows = [
+        ((CLIENT, TenantId(7), 999), Verdict::Denied(1)),
+        ((CLIENT, TenantId(7), 1_000), Verdict::Denied(2)),
+        ((Addr::V6(0), TenantId(9), 0), Verdict::Denied(3)),
+        ((Addr::V6(0), TenantId(8), 0), Verdict::Pass),
+    ];
+    for (client, want) in rows {
+        let verdicts = judged(rt.alloc(), &denies, &[], client);
+        assert_eq!(rt; verdicts, Ok([want; 2]), "at {client:?}");
+    }
 }

@@ -2,7 +2,6 @@ use Rattle.std.proofs.Common.{◌≡◌, true, false, List, Some, None, sym, ap,
 use Rattle.std.specs.Prelude.{position, filter, min, ◌-◌, ◌^◌}
 use Rattle.std.proofs.lemmas.Grind.{common_steps}
 use Rattle.access_lists.specs.declared.deny.Deny.{Deny}
-use Rattle.access_lists.specs.declared.lists.Allow.{Allow}
 use Rattle.access_lists.specs.declared.verdict.Verdict.TheVariants.{Denied}
 use Rattle.access_lists.specs.Verdicts.{Entries, matches, is_of, is_barred, verdict}
 use Rattle.access_lists.proofs.Places.{verdict_at, verdict_nowhere}
@@ -21,7 +20,7 @@ returns-then-bars c =
     let nowhere : None ≡ position (matches c.args.addr.now c.args.tenant c.args.now) c.self.inside.denies.items
     = c.in_default.ensures ∙ ap (λ (p : List Deny). position (matches c.args.addr.now c.args.tenant c.args.now) p) c.as_slice.ensures.value in
     let barred : true ≡ is_barred c.args.addr.now (filter (is_of c.args.tenant) c.self.inside.allows.items)
-    = c.if-bars.ensures ∙ ap (λ (p : List Allow). is_barred c.args.addr.now (filter (is_of c.args.tenant) p)) c.as_slice-2.ensures.value in
+    = c.if-bars.ensures c.self.inside.allows.items c.self.invariant in
     verdict_nowhere (record { denies = c.self.inside.denies.items; allows = c.self.inside.allows.items }) c.args.addr.now c.args.tenant c.args.now true nowhere barred
     ∙ ap (λ (l : Entries). verdict l c.args.addr.now c.args.tenant c.args.now) c.self.view_is
 
@@ -30,6 +29,6 @@ returns c =
     let nowhere : None ≡ position (matches c.args.addr.now c.args.tenant c.args.now) c.self.inside.denies.items
     = c.in_default.ensures ∙ ap (λ (p : List Deny). position (matches c.args.addr.now c.args.tenant c.args.now) p) c.as_slice.ensures.value in
     let barred : false ≡ is_barred c.args.addr.now (filter (is_of c.args.tenant) c.self.inside.allows.items)
-    = c.if-bars.ensures ∙ ap (λ (p : List Allow). is_barred c.args.addr.now (filter (is_of c.args.tenant) p)) c.as_slice-2.ensures.value in
+    = c.if-bars.ensures c.self.inside.allows.items c.self.invariant in
     verdict_nowhere (record { denies = c.self.inside.denies.items; allows = c.self.inside.allows.items }) c.args.addr.now c.args.tenant c.args.now false nowhere barred
     ∙ ap (λ (l : Entries). verdict l c.args.addr.now c.args.tenant c.args.now) c.self.view_is
