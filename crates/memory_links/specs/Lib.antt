@@ -4,3 +4,4 @@ pub mod Counts
 pub mod Boards
 pub mod Counting
 pub mod Gates
+pub mod Ledgers

@@ -7,6 +7,7 @@
 mod count_board;
 mod counts;
 mod gates;
+mod ledger;
 mod list;
 mod meets;
 mod script_board;
@@ -15,6 +16,7 @@ mod script_link;
 
 pub use count_board::{CountBack, CountBoard, CountFront};
 pub use gates::{GatedPiece, GatedSource, WatchedSink, gated};
+pub use ledger::Ledger;
 pub use list::{ListClock, ListWords};
 pub use meets::{MeetSink, MeetSource, meeting};
 pub use script_board::{ScriptBack, ScriptBoard, ScriptFront};
