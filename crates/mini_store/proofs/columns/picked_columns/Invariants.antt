@@ -1,0 +1,6 @@
+use Rattle.std.proofs.Common.{◌≡◌, take}
+use Rattle.mini_store.specs.Values.{picked}
+use Rattle.mini_store.proofs.columns.picked_columns.Given as goal
+
+abbrev pub invariant-loop-place : goal.invariant-loop-place
+invariant-loop-place l = l.copies ≡ picked (take l.place-index l.places) l.columns

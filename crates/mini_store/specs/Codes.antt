@@ -1,0 +1,48 @@
+-- The codes of errors: five characters, and a text.
+use Rattle.std.specs.Prelude.{ℕ, List, codes}
+use Rattle.mini_store.specs.declared.code.SqlCode.{SqlCode}
+use Rattle.mini_store.specs.declared.code.SqlCode.TheVariants as code
+
+abbrev pub digits_of : SqlCode → List ℕ
+digits_of code.SyntaxError = codes "42601"
+digits_of code.UndefinedTable = codes "42P01"
+digits_of code.DuplicateTable = codes "42P07"
+digits_of code.DuplicateColumn = codes "42701"
+digits_of code.UndefinedColumn = codes "42703"
+digits_of code.DatatypeMismatch = codes "42804"
+digits_of code.InvalidTextRepresentation = codes "22P02"
+digits_of code.BadCopyFileFormat = codes "22P04"
+digits_of code.UniqueViolation = codes "23505"
+digits_of code.ProgramLimitExceeded = codes "54000"
+digits_of code.SerializationFailure = codes "40001"
+digits_of code.InFailedSqlTransaction = codes "25P02"
+digits_of code.InvalidSqlStatementName = codes "26000"
+digits_of code.DuplicatePreparedStatement = codes "42P05"
+digits_of code.InvalidCursorName = codes "34000"
+digits_of code.UndefinedObject = codes "42704"
+digits_of code.FeatureNotSupported = codes "0A000"
+digits_of code.ProtocolViolation = codes "08P01"
+digits_of code.QueryCanceled = codes "57014"
+digits_of code.InvalidParameterValue = codes "22023"
+
+abbrev pub message_of : SqlCode → List ℕ
+message_of code.SyntaxError = codes "syntax error"
+message_of code.UndefinedTable = codes "no such table"
+message_of code.DuplicateTable = codes "table exists"
+message_of code.DuplicateColumn = codes "column named twice"
+message_of code.UndefinedColumn = codes "no such column"
+message_of code.DatatypeMismatch = codes "wrong kind of value"
+message_of code.InvalidTextRepresentation = codes "not a number"
+message_of code.BadCopyFileFormat = codes "bad copy line"
+message_of code.UniqueViolation = codes "key exists"
+message_of code.ProgramLimitExceeded = codes "limit passed"
+message_of code.SerializationFailure = codes "transaction must be retried"
+message_of code.InFailedSqlTransaction = codes "transaction has failed"
+message_of code.InvalidSqlStatementName = codes "no such statement"
+message_of code.DuplicatePreparedStatement = codes "statement exists"
+message_of code.InvalidCursorName = codes "no such portal"
+message_of code.UndefinedObject = codes "no such variable"
+message_of code.FeatureNotSupported = codes "not supported"
+message_of code.ProtocolViolation = codes "bad message"
+message_of code.QueryCanceled = codes "copy failed"
+message_of code.InvalidParameterValue = codes "bad session state"

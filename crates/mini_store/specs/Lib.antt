@@ -1,0 +1,12 @@
+pub mod Codes
+pub mod Answers
+pub mod Shown
+pub mod Values
+pub mod Tables
+pub mod Limits
+pub mod Operations
+pub mod Done
+pub mod Transactions
+pub mod Rising
+pub mod Pages
+pub mod Laws

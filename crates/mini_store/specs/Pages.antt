@@ -1,0 +1,17 @@
+-- Rows kept in pages, one after another.
+use Rattle.std.specs.Prelude.{Bool, List, [], ◌∷◌, Option, Some, None}
+use Rattle.std.specs.List.{flat_map, list_any}
+use Rattle.std.specs.Ordering.{is_lt}
+use Rattle.mini_store.specs.Values.{Row, row_order}
+
+abbrev pub joined : List (List Row) → List Row
+joined ps = flat_map (λ p. p) ps
+
+-- whether a row of a greater key is among these
+abbrev pub has_above : Row → List Row → Bool
+has_above r rs = list_any (λ s. is_lt (row_order r s)) rs
+
+abbrev pub last_of : List Row → Option Row
+last_of [] = None
+last_of (r ∷ []) = Some r
+last_of (r ∷ s ∷ rs) = last_of (s ∷ rs)
