@@ -1,0 +1,6 @@
+pub mod Added
+pub mod Again
+pub mod Entries
+pub mod Loops
+pub mod Takes
+pub mod Texts
