@@ -1,0 +1,2 @@
+mod Hanging
+mod Parts
