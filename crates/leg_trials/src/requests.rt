@@ -105,7 +105,7 @@ fn it_reads(rt: HostRuntime) -> Result<(), NoMemory> {
 
 #[test]
 fn a_read_or_a_write_fails(rt: HostRuntime) -> Result<(), NoMemory> {
-    // Two messages, which take four reads, the third of them idle, and five writes of at most four bytes.
+    // Two messages, which take four reads, the third of them idle, and four writes of at most four bytes.
     let bytes = b"Q\0\0\0\x061\0d\0\0\0\x06ab";
     let rows: [(u64, u64, usize, LegEnd); 11] = [
         (1, 0, 0, LegEnd::ReadFault),
@@ -116,9 +116,9 @@ fn a_read_or_a_write_fails(rt: HostRuntime) -> Result<(), NoMemory> {
         (6, 0, 14, LegEnd::Ended),
         (0, 1, 0, LegEnd::WriteFault),
         (0, 2, 4, LegEnd::WriteFault),
-        (0, 3, 5, LegEnd::WriteFault),
-        (0, 4, 7, LegEnd::WriteFault),
-        (0, 7, 14, LegEnd::Ended),
+        (0, 3, 7, LegEnd::WriteFault),
+        (0, 4, 11, LegEnd::WriteFault),
+        (0, 5, 14, LegEnd::Ended),
     ];
     for (read, write, written, why) in rows {
         let given = Given {

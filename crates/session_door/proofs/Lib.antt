@@ -1,3 +1,3 @@
 pub mod Reading
-pub mod Openings
+pub mod Entrances
 pub mod Turns

@@ -2,11 +2,11 @@
 use Rattle.std.proofs.Common.{◌≡◌, ℕ, ◌+◌, ◌≤◌, ◌<◌, true, List, [], ◌++◌, refl, sym, ap, ◌∙◌, subst, arith, inl, inr}
 use Rattle.proxy_outside.specs.Reading.{Origin}
 use Rattle.proxy_outside.specs.Writing.{Target}
-use Rattle.startup_route.specs.Openings.{opening, is_need, wanted, step_between}
+use Rattle.startup_route.specs.Entrances.{entrance, is_need, wanted, step_between}
 use Rattle.startup_route.specs.Doors.{goes_on, said_by}
 use Rattle.startup_route.specs.declared.step.DoorStep.{DoorStep}
 use Rattle.startup_route.specs.declared.step.DoorStep.TheVariants as step
-use Rattle.startup_route.proofs.OpeningLemmas.{wanted_needed}
+use Rattle.startup_route.proofs.EntranceLemmas.{wanted_needed}
 use Rattle.session_door.specs.declared.door.DoorCut.{DoorCut}
 use Rattle.session_door.specs.declared.door.DoorCut.TheVariants.{ReadFault, WriteFault, Ended, Late, NoMemory}
 use Rattle.session_door.specs.declared.door.Entry.{Entry}
@@ -15,13 +15,13 @@ use Rattle.session_door.specs.declared.door.Turn.{Turn}
 use Rattle.session_door.specs.declared.door.Turn.TheVariants.{On, Over}
 use Rattle.session_door.specs.Entering.{Hears, Breaks, Answers, Feeds, Turned, IsLeast, Says, Came, Enters}
 use Rattle.session_door.proofs.Reading.{hears_none, hears_more, says_none, says_more, says_not, rose_from, why_from}
-use Rattle.session_door.proofs.Openings.{opens_with, says_nothing, Next, next_step, least_none, least_more}
+use Rattle.session_door.proofs.Entrances.{opens_with, says_nothing, Next, next_step, least_none, least_more}
 
 -- more is wanted behind these packets
 pub record So (patience : ℕ) (first now : Origin) (k l : Target) (fed : List ℕ) (waits : ℕ) : Type 0 where
   pub heard : Hears 0 waits first now fed
-  pub said : Says (opening fed).says k l
-  pub need : is_need (opening fed).step ≡ true
+  pub said : Says (entrance fed).says k l
+  pub need : is_need (entrance fed).step ≡ true
   pub least : IsLeast fed
   pub patient : waits < patience
 
@@ -62,25 +62,25 @@ pub record Fed (patience : ℕ) (first now : Origin) (k l : Target) (fed : List 
   pub next : Next fed p s
 
 pub fed_more : (patience before : ℕ) (first old new : Origin) (k0 k l : Target) (fed fed' : List ℕ) (t : Turn) → So patience first old k0 k fed before → (f : Feeds before patience fed fed' old new k l t)
-    → Fed patience first new k l fed f.piece (step_between (opening fed) (opening (fed ++ f.piece))) f.after
+    → Fed patience first new k l fed f.piece (step_between (entrance fed) (entrance (fed ++ f.piece))) f.after
 fed_more patience before first old new k0 k l fed fed' t so f = record {
   heard = hears_more 0 before f.after first old new fed f.piece so.heard f.heard;
   least = least_more fed f.piece so.need f.within so.least;
   next = next_step fed f.piece f.some f.within;
 }
 
-answers_at : (fed fed' p : List ℕ) (after : ℕ) (k l : Target) (t : Turn) → fed' ≡ fed ++ p → Answers after k l (step_between (opening fed) (opening fed')) t → Answers after k l (step_between (opening fed) (opening (fed ++ p))) t
-answers_at fed fed' p after k l t e h = subst (λ (v : List ℕ). Answers after k l (step_between (opening fed) (opening v)) t) e h
+answers_at : (fed fed' p : List ℕ) (after : ℕ) (k l : Target) (t : Turn) → fed' ≡ fed ++ p → Answers after k l (step_between (entrance fed) (entrance fed')) t → Answers after k l (step_between (entrance fed) (entrance (fed ++ p))) t
+answers_at fed fed' p after k l t e h = subst (λ (v : List ℕ). Answers after k l (step_between (entrance fed) (entrance v)) t) e h
 
 fed_on : (patience before w : ℕ) (first old new : Origin) (k0 k l : Target) (fed fed' : List ℕ) → So patience first old k0 k fed before → Feeds before patience fed fed' old new k l (On w) → So patience first new k0 l fed' w
 fed_on patience before w first old new k0 k l fed fed' so f =
-    let s : DoorStep = step_between (opening fed) (opening (fed ++ f.piece)) in
+    let s : DoorStep = step_between (entrance fed) (entrance (fed ++ f.piece)) in
     let m = fed_more patience before first old new k0 k l fed fed' (On w) so f in
     let o = on_step s w f.after k l (answers_at fed fed' f.piece f.after k l (On w) f.fed_is f.answered) in
     subst (λ (v : List ℕ). So patience first new k0 l v w) (sym f.fed_is)
     (subst (λ (n : ℕ). So patience first new k0 l (fed ++ f.piece) n) (sym o.same) (record {
       heard = m.heard;
-      said = subst (λ (n : ℕ). Says n k0 l) (sym m.next.says) (says_more (opening fed).says (said_by s) k0 k l so.said o.says);
+      said = subst (λ (n : ℕ). Says n k0 l) (sym m.next.says) (says_more (entrance fed).says (said_by s) k0 k l so.said o.says);
       need = m.next.need ∙ o.goes;
       least = m.least;
       patient = f.patient;
@@ -109,25 +109,25 @@ over_step patience before first old new k0 k l fed p entry step.Say after so m l
     came_as entry (Cut WriteFault) (fed ++ p) after patience first new k0 l h.0 (
       m.heard,
       record {
-        said = (opening fed).says;
+        said = (entrance fed).says;
         one_less = m.next.says;
-        wrote = let n : (opening fed).says + 0 ≡ (opening fed).says = omega arith in subst (λ (x : ℕ). Says x k0 l) n (says_more (opening fed).says 0 k0 k l so.said (says_not k l h.1));
+        wrote = let n : (entrance fed).says + 0 ≡ (entrance fed).says = omega arith in subst (λ (x : ℕ). Says x k0 l) n (says_more (entrance fed).says 0 k0 k l so.said (says_not k l h.1));
         rose = rose_from k0.faults k.faults l.faults so.said.faults h.1.rose;
       },
     )
 over_step patience before first old new k0 k l fed p entry (step.Ready r) after so m lt h =
     came_as entry (Session r after) (fed ++ p) after patience first new k0 l h.0
-    (m.next.known refl, m.heard, lt, said_by_none (step.Ready r) (opening fed).says (opening (fed ++ p)).says k0 k l m.next.says refl so.said h.1)
+    (m.next.known refl, m.heard, lt, said_by_none (step.Ready r) (entrance fed).says (entrance (fed ++ p)).says k0 k l m.next.says refl so.said h.1)
 over_step patience before first old new k0 k l fed p entry (step.Cancel key) after so m lt h =
     came_as entry (Cancel key) (fed ++ p) after patience first new k0 l h.0
-    (m.next.known refl, m.heard, lt, said_by_none (step.Cancel key) (opening fed).says (opening (fed ++ p)).says k0 k l m.next.says refl so.said h.1)
+    (m.next.known refl, m.heard, lt, said_by_none (step.Cancel key) (entrance fed).says (entrance (fed ++ p)).says k0 k l m.next.says refl so.said h.1)
 over_step patience before first old new k0 k l fed p entry (step.Refused f) after so m lt h =
     came_as entry (Refused f) (fed ++ p) after patience first new k0 l h.0
-    (m.next.known refl, m.heard, lt, said_by_none (step.Refused f) (opening fed).says (opening (fed ++ p)).says k0 k l m.next.says refl so.said h.1)
+    (m.next.known refl, m.heard, lt, said_by_none (step.Refused f) (entrance fed).says (entrance (fed ++ p)).says k0 k l m.next.says refl so.said h.1)
 
 fed_over : (patience before : ℕ) (first old new : Origin) (k0 k l : Target) (fed fed' : List ℕ) (entry : Entry) → So patience first old k0 k fed before → Feeds before patience fed fed' old new k l (Over entry) → Enters patience first new k0 l entry
 fed_over patience before first old new k0 k l fed fed' entry so f =
-    let s : DoorStep = step_between (opening fed) (opening (fed ++ f.piece)) in
+    let s : DoorStep = step_between (entrance fed) (entrance (fed ++ f.piece)) in
     let m = fed_more patience before first old new k0 k l fed fed' (Over entry) so f in
     record {
       fed = fed ++ f.piece;

@@ -6,7 +6,7 @@ use Rattle.link_io.specs.Reading.{ReadOn, IsAtEnd}
 use Rattle.link_io.specs.Writing.{Wrote, WroteSome}
 use Rattle.link_io.specs.declared.read.ReadCut.{ReadCut}
 use Rattle.link_io.specs.declared.read.ReadCut.TheVariants as read
-use Rattle.startup_route.specs.Openings.{opening, is_need, wanted, step_between}
+use Rattle.startup_route.specs.Entrances.{entrance, is_need, wanted, step_between}
 use Rattle.startup_route.specs.declared.step.DoorStep.{DoorStep}
 use Rattle.startup_route.specs.declared.step.DoorStep.TheVariants as step
 use Rattle.session_door.specs.declared.door.DoorCut.{DoorCut}
@@ -63,7 +63,7 @@ pub record Feeds (before patience : ℕ) (fed fed' : List ℕ) (old new : Origin
   pub after : ℕ
   pub heard : Hears before after old new piece
   pub patient : after < patience
-  pub answered : Answers after k l (step_between (opening fed) (opening fed')) t
+  pub answered : Answers after k l (step_between (entrance fed) (entrance fed')) t
 
 -- none came
 pub record Stops (before patience : ℕ) (fed fed' : List ℕ) (old new : Origin) (k l : Target) (t : Turn) : Type 0 where
@@ -80,7 +80,7 @@ Turned before patience fed fed' old new k l t = Feeds before patience fed fed' o
 
 -- with any fewer of these bytes more is wanted
 abbrev pub IsLeast : List ℕ → Type 0
-IsLeast fed = (n : ℕ) → n < length fed → is_need (opening (take n fed)).step ≡ true
+IsLeast fed = (n : ℕ) → n < length fed → is_need (entrance (take n fed)).step ≡ true
 
 -- one N for each request for encryption that was refused
 abbrev pub Says : ℕ → Target → Target → Type 0
@@ -95,12 +95,12 @@ pub record SaysLess (n : ℕ) (k l : Target) : Type 0 where
 
 -- what came of the packets
 abbrev pub Came : Entry → List ℕ → ℕ → ℕ → Origin → Origin → Target → Target → Type 0
-Came (Session route waits) fed after patience old new k l = ((opening fed).step ≡ step.Ready route) × Hears 0 waits old new fed × (waits < patience) × Says (opening fed).says k l
-Came (Cancel key) fed after patience old new k l = ((opening fed).step ≡ step.Cancel key) × Hears 0 after old new fed × (after < patience) × Says (opening fed).says k l
-Came (Refused fault) fed after patience old new k l = ((opening fed).step ≡ step.Refused fault) × Hears 0 after old new fed × (after < patience) × Says (opening fed).says k l
-Came (Cut WriteFault) fed after patience old new k l = Hears 0 after old new fed × SaysLess (opening fed).says k l
+Came (Session route waits) fed after patience old new k l = ((entrance fed).step ≡ step.Ready route) × Hears 0 waits old new fed × (waits < patience) × Says (entrance fed).says k l
+Came (Cancel key) fed after patience old new k l = ((entrance fed).step ≡ step.Cancel key) × Hears 0 after old new fed × (after < patience) × Says (entrance fed).says k l
+Came (Refused fault) fed after patience old new k l = ((entrance fed).step ≡ step.Refused fault) × Hears 0 after old new fed × (after < patience) × Says (entrance fed).says k l
+Came (Cut WriteFault) fed after patience old new k l = Hears 0 after old new fed × SaysLess (entrance fed).says k l
 Came (Cut c) fed after patience old new k l =
-    (is_need (opening fed).step ≡ true) × ((part : List ℕ) × Hears 0 after old new (fed ++ part)) × WhyCut c after patience old new × Says (opening fed).says k l
+    (is_need (entrance fed).step ≡ true) × ((part : List ℕ) × Hears 0 after old new (fed ++ part)) × WhyCut c after patience old new × Says (entrance fed).says k l
 
 -- these packets came, and not a byte behind them was taken but where reading broke off
 pub record Enters (patience : ℕ) (old new : Origin) (k l : Target) (entry : Entry) : Type 0 where

@@ -1,7 +1,7 @@
 //! Reading the first packets.
 
 ghost use Rattle.std.specs.Prelude.{◌≡◌, ◌≤◌, ◌<◌, ◌+◌, []};
-ghost use Rattle.startup_route.specs.Openings.{wanted};
+ghost use Rattle.startup_route.specs.Entrances.{wanted};
 ghost use Rattle.session_door.specs.Entering.{Answers, Turned, cut_of, Enters};
 
 use link_io::{ReadCut, read_exact, write_all};

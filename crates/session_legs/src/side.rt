@@ -19,7 +19,7 @@ pub enum LegEnd {
     ReadFault,
     /// The sink failed; it may hold a part of one message.
     WriteFault,
-    /// Memory was wanted for what was read, or for a message. At most 8,192 bytes that were read are lost.
+    /// Memory was wanted for what was read. At most 8,192 bytes that were read are lost.
     NoMemory,
 }
 
