@@ -1,4 +1,4 @@
-//! A session's state, read from its bytes, version 1.
+//! A session's state as bytes, version 1: read from them and written to them.
 //!
 //! A blob has the user, the database, the variables and the prepared statements of a session that
 //! moves. A state has one spelling, and all other bytes are refused. Nothing here knows what a
@@ -6,6 +6,7 @@
 #![tactic(auto)]
 
 mod decoding;
+mod encoding;
 mod fault;
 mod laws;
 mod reader;
@@ -13,8 +14,10 @@ mod state;
 mod statements;
 mod types;
 mod variables;
+mod writing;
 
 pub use decoding::decode;
+pub use encoding::encode;
 pub use fault::BlobFault;
 pub use laws::a_state_has_one_spelling;
 pub use state::{MOST_BLOB, State};

@@ -31,6 +31,28 @@ fn a_state_is_read(rt: HostRuntime) -> Result<(), Fail> {
     Ok(())
 }
 
+/// Whether the state's bytes are those of the row, and then, with a statement without a name, one text and one type, those
+/// with it behind.
+fn rewritten(alloc: Global, s: &mut State) -> Result<(bool, bool), BlobFault> {
+    let first = encode(alloc, s)?;
+    let is_row = first.as_slice() == ROW.as_slice();
+    drop(first);
+    s.statements.put("", "Q", &[25])?;
+    let longer = encode(alloc, s)?;
+    let behind = [0, 1, 0, 0, 0, 0, 0, 0, 0, 1, 81, 0, 1, 0, 0, 0, 25u8];
+    let is_longer = longer.len() == 40 && longer.as_slice().ends_with(behind.as_slice());
+    Ok((is_row, is_longer))
+}
+
+#[test]
+fn a_state_is_written(rt: HostRuntime) -> Result<(), Fail> {
+    let mut s = decode(rt.alloc(), &ROW)?;
+    let written = rewritten(rt.alloc(), &mut s);
+    drop(s);
+    assert_eq!(rt; written, Ok((true, true)));
+    Ok(())
+}
+
 #[test]
 fn faults_are_told_from_left_to_right(rt: HostRuntime) {
     let rows: [(&[u8], Option<BlobFault>); 8] = [
