@@ -1,3 +1,5 @@
 pub mod Reading
-pub mod Turns
 pub mod Keyed
+pub mod Turns
+pub mod Meant
+pub mod Went

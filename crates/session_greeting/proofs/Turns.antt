@@ -152,7 +152,7 @@ goes key limits waited c c' w first old new f means.Asks e so came given fit (Er
 goes key limits waited c c' w first old new f (means.Key k) e so came given fit h =
     so_is key limits waited first new (record c { key = Some k; pod_waits = w }) c' h.0 (quiet key limits waited c (Some k) w first old new f (means.Key k) e so came given refl refl (no_key c.key k fit) h.1 h.2)
 goes key limits waited c c' w first old new f means.Ready e so came given fit h = absurd (let is = h.0 in cc)
-goes key limits waited c c' w first old new f (means.Refusal fields) e so came given fit h = absurd (let is = h.0 in cc)
+goes key limits waited c c' w first old new f (means.Fault fields) e so came given fit h = absurd (let is = h.0 in cc)
 goes key limits waited c c' w first old new f means.Strange e so came given fit h = absurd h
 
 -- ---- turns

@@ -45,7 +45,7 @@ Follows patience means.GoesOn c old new k l t = (t ≡ On c) × (new ≡ old) ×
 Follows patience means.Asks c old new k l t = (r : Result ℕ Greeted) × LogsIn c.client_waits patience old new k l r × (t ≡ after_login c r)
 Follows patience (means.Key key) c old new k l t = (t ≡ On (record c { key = Some key })) × (new ≡ old) × (l ≡ k)
 Follows patience means.Ready c old new k l t = (t ≡ Over (Ready c.key c.client_waits)) × (new ≡ old) × (l ≡ k)
-Follows patience (means.Refusal fields) c old new k l t = (t ≡ Over (Refused fields)) × (new ≡ old) × (l ≡ k)
+Follows patience (means.Fault fields) c old new k l t = (t ≡ Over (Refused fields)) × (new ≡ old) × (l ≡ k)
 Follows patience means.Strange c old new k l t = ⊥
 
 -- it is over, and neither client nor pod was told

@@ -12,7 +12,7 @@ use Rattle.pgw_messages.specs.declared.pod_key.PodKey.{PodKey}
 use Rattle.proxy_outside.specs.declared.identity.ClientKey.{ClientKey}
 use Rattle.session_model.specs.Heard.{key_body}
 use Rattle.session_greeting.specs.declared.meaning.Meaning.{Meaning}
-use Rattle.session_greeting.specs.declared.meaning.Meaning.TheVariants.{GoesOn, Asks, Key, Ready, Refusal, Strange}
+use Rattle.session_greeting.specs.declared.meaning.Meaning.TheVariants.{GoesOn, Asks, Key, Ready, Fault, Strange}
 
 -- AuthenticationOk and AuthenticationSASLFinal go on; CleartextPassword, MD5Password, SASL and SASLContinue ask
 abbrev pub auth_meaning : ℕ → Meaning
@@ -26,7 +26,7 @@ read_meaning (back.Auth m) = auth_meaning m.code
 read_meaning (back.Status p) = GoesOn
 read_meaning (back.Key key) = Key key
 read_meaning (back.Ready state) = Ready
-read_meaning (back.Fault fields) = Refusal fields
+read_meaning (back.Fault fields) = Fault fields
 read_meaning (back.Notice fields) = GoesOn
 read_meaning (back.Columns cs) = Strange
 read_meaning (back.Row vs) = Strange
@@ -64,7 +64,7 @@ is_fit GoesOn key = true
 is_fit Asks key = true
 is_fit (Key k) key = is_none key
 is_fit Ready key = true
-is_fit (Refusal fields) key = true
+is_fit (Fault fields) key = true
 is_fit Strange key = false
 
 -- the greeting goes on behind it
@@ -73,7 +73,7 @@ goes_on GoesOn = true
 goes_on Asks = true
 goes_on (Key k) = true
 goes_on Ready = false
-goes_on (Refusal fields) = false
+goes_on (Fault fields) = false
 goes_on Strange = false
 
 abbrev pub key_in : Meaning → List PodKey
@@ -81,7 +81,7 @@ key_in GoesOn = []
 key_in Asks = []
 key_in (Key k) = k ∷ []
 key_in Ready = []
-key_in (Refusal fields) = []
+key_in (Fault fields) = []
 key_in Strange = []
 
 abbrev pub keys_in : List Frame → List PodKey
@@ -92,7 +92,7 @@ asks_once GoesOn = 0
 asks_once Asks = 1
 asks_once (Key k) = 0
 asks_once Ready = 0
-asks_once (Refusal fields) = 0
+asks_once (Fault fields) = 0
 asks_once Strange = 0
 
 -- how many of them ask for a message of the client's

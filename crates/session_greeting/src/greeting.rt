@@ -49,7 +49,7 @@ fn is_fit(m: &Meaning, key: Option<PodKey>) -> bool
         Meaning::Asks => true,
         Meaning::Key(_) => key.is_none(),
         Meaning::Ready => true,
-        Meaning::Refusal(_) => true,
+        Meaning::Fault(_) => true,
         Meaning::Strange => false,
     }
 }
@@ -81,7 +81,7 @@ fn follow<S: Source, T: Sink>(
             ..course
         }),
         Meaning::Ready => Turn::Over(Greeted::Ready(course.key, course.client_waits)),
-        Meaning::Refusal(fields) => Turn::Over(Greeted::Refused(fields)),
+        Meaning::Fault(fields) => Turn::Over(Greeted::Refused(fields)),
         Meaning::Strange => unreachable!(),
     }
 }

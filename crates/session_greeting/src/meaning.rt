@@ -20,7 +20,7 @@ pub(crate) enum Meaning {
     /// The session is ready.
     Ready,
     /// There will be no session.
-    Refusal(Fields),
+    Fault(Fields),
     /// It has no place in a greeting.
     Strange,
 }
@@ -46,7 +46,7 @@ fn read_meaning(m: BackMsg) -> Meaning
         BackMsg::Status(_) => Meaning::GoesOn,
         BackMsg::Key(key) => Meaning::Key(key),
         BackMsg::Ready(_) => Meaning::Ready,
-        BackMsg::Fault(fields) => Meaning::Refusal(fields),
+        BackMsg::Fault(fields) => Meaning::Fault(fields),
         BackMsg::Notice(_) => Meaning::GoesOn,
         BackMsg::Columns(_) => Meaning::Strange,
         BackMsg::Row(_) => Meaning::Strange,

@@ -1,0 +1,15 @@
+pub mod Booked
+pub mod Tagged
+pub mod Began
+pub mod Endings
+pub mod Grown
+pub mod Placed
+pub mod Books
+pub mod Linked
+pub mod Missed
+pub mod Stages
+pub mod Shut
+pub mod Closing
+pub mod Keeping
+pub mod Readied
+pub mod Packets

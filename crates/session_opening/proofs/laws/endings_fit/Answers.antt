@@ -1,0 +1,5 @@
+use Rattle.session_opening.proofs.Closing.{end_fits}
+use Rattle.session_opening.proofs.laws.endings_fit.Goals as goal
+
+pub returns : goal.returns
+returns c = end_fits
