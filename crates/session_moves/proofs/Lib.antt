@@ -1,0 +1,12 @@
+pub mod Cases
+pub mod Lists
+pub mod Shown
+pub mod OnNewLink
+pub mod Recorded
+pub mod OnOldLink
+pub mod Places
+pub mod Behind
+pub mod Onward
+pub mod ToNewLink
+pub mod Every
+pub mod Before

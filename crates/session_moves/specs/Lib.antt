@@ -1,0 +1,3 @@
+pub mod Attempts
+pub mod Telling
+pub mod Going

@@ -1,0 +1,4 @@
+pub mod Bytes
+pub mod Short
+pub mod OneLeg
+pub mod More

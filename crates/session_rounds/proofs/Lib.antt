@@ -1,0 +1,4 @@
+pub mod Deciding
+pub mod Asked
+pub mod OneTurn
+pub mod Chain

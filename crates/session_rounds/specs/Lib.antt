@@ -1,0 +1,4 @@
+pub mod Scenes
+pub mod Asking
+pub mod Turns
+pub mod Running
