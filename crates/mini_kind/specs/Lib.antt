@@ -1,0 +1,13 @@
+pub mod Parameters
+pub mod Replies
+pub mod Mini
+pub mod Spelled
+pub mod Dumps
+pub mod Plans
+pub mod Operating
+pub mod Running
+pub mod Extended
+pub mod Copies
+pub mod Telling
+pub mod Fits
+pub mod Laws
