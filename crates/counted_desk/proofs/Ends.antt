@@ -13,7 +13,8 @@ use Rattle.counted_desk.specs.declared.answer.CallFault.{CallFault}
 use Rattle.counted_desk.specs.declared.answer.CallFault.TheVariants.{NoMemory, JournalFull}
 use Rattle.counted_desk.specs.declared.answer.Receipt.{Receipt}
 use Rattle.proxy_outside.specs.Rules.{Rules}
-use Rattle.counted_desk.specs.History.{entry, call, Call, log_of, state_of, Replies, Rises, Begins, IsOwnOf, IsLegal, IsLegalBelow}
+use Rattle.pgw_frames.specs.Frames.{Begins}
+use Rattle.counted_desk.specs.History.{entry, call, Call, log_of, state_of, AreReplies, Rises, IsOwnOf, IsLegal, IsLegalBelow}
 use Rattle.atomic_table.specs.Seated.{TableId}
 use Rattle.counted_desk.specs.Calls.{FaultAt, Adds, AddsNot, Made, Missed}
 use Rattle.counted_desk.specs.Seats.{Sight, sight, IsAtRest}
@@ -70,11 +71,11 @@ module _ {M C R S : Type 0} (stands : M → S → Type 0) (rules : Rules S C R) 
       let own_is : w.own ≡ v.own ++ e ∷ [] = ap (λ (u : V). u.own) is ∙ ap (λ l. v.own ++ l) (ap (drop (length log)) all ∙ drop_front log (e ∷ [])) in
       let long : length log ≡ length y.journal.items = history-length rules rules.first y.journal.items in record {
         between = t.begins.0;
-        seen = seen_is ∙ (ap (λ l. l ++ e ∷ []) t.begins.1 ∙ ap (λ (x : Entry C R). (v.seen ++ t.begins.0) ++ x ∷ []) (sym e''));
-        place = d.place ∙ (sym long ∙ ap length t.begins.1);
+        seen = seen_is ∙ (ap (λ l. l ++ e ∷ []) (sym t.begins.1) ∙ ap (λ (x : Entry C R). (v.seen ++ t.begins.0) ++ x ∷ []) (sym e''));
+        place = d.place ∙ (sym long ∙ ap length (sym t.begins.1));
         room = d.room;
         legal = record {
-          replies = subst (Replies rules rules.first) (sym (ap (λ (u : V). u.seen) is)) (history-replies rules rules.first y'.journal.items);
+          replies = subst (AreReplies rules rules.first) (sym (ap (λ (u : V). u.seen) is)) (history-replies rules rules.first y'.journal.items);
           rises = subst (λ k. Rises 0 w.seen (k + 1)) (sym last) (subst (λ l. Rises 0 l (n + 1)) (sym seen_is) (rises_new v y n c t));
         };
         own = own_is ∙ ap (λ (x : Entry C R). v.own ++ x ∷ []) (sym e'');
@@ -91,7 +92,7 @@ module _ {M C R S : Type 0} (stands : M → S → Type 0) (rules : Rules S C R) 
       let long : length w.seen ≡ length y.journal.items = ap length seen ∙ history-length rules rules.first y.journal.items in
       let rising : Rises 0 w.seen w.last = subst (λ k. Rises 0 w.seen k) (sym (ap (λ (u : V). u.last) is)) (subst (λ l. Rises 0 l n) (sym seen) t.rising) in record {
         begins = subst (Begins v.seen) (sym seen) t.begins;
-        legal = record { replies = subst (Replies rules rules.first) (sym seen) (history-replies rules rules.first y.journal.items); rises = rising };
+        legal = record { replies = subst (AreReplies rules rules.first) (sym seen) (history-replies rules rules.first y.journal.items); rises = rising };
         unused = times_above 0 w.seen w.last rising;
         own = ap (λ (u : V). u.own) is ∙ (ap (λ l. v.own ++ l) none_new ∙ append-nil v.own);
         within = own;

@@ -14,7 +14,8 @@ use Rattle.counted_desk.specs.declared.entry.Role.{Role}
 use Rattle.counted_desk.specs.declared.entry.Role.TheVariants.{Spent, Idle, Waiting, Turn}
 use Rattle.counted_desk.specs.declared.entry.View.{View}
 use Rattle.proxy_outside.specs.Rules.{Rules}
-use Rattle.counted_desk.specs.History.{log_of, state_of, Rises, times, Begins, Within, one_if, Call}
+use Rattle.pgw_frames.specs.Frames.{Begins}
+use Rattle.counted_desk.specs.History.{log_of, state_of, Rises, times, Within, one_if, Call}
 use Rattle.counted_desk.specs.Rule.{total, has, has_any, has_turn, newcomer, spent, drawn, at_turn, after_turn, copied, joined, Knows, Fits, Home, IsWhole, IsDue, IsKept, Took, drew, looked, left, compared, Held}
 use Rattle.counted_desk.proofs.Totals.{total_set, total_append, total_one, total_two, total_below, total_zero, each_set, set_at, begins_same, begins_none, begins_more, begins_shorter, within_more, within_append, drop_front, has_last, times_append, times_none}
 

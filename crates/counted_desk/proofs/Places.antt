@@ -8,13 +8,13 @@ use mathlib.Core.Option.{some, some-injective}
 use lib.ListN.{get_elem?}
 use Rattle.proxy_outside.specs.Rules.{Rules}
 use Rattle.counted_desk.specs.declared.entry.Entry.{Entry}
-use Rattle.counted_desk.specs.History.{Replies, Within, times, one_if, IsOwnOf, IsAnsweredIn, AreAt, AreAnsweredIn, behind}
+use Rattle.counted_desk.specs.History.{AreReplies, Within, times, one_if, IsOwnOf, IsAnsweredIn, AreAt, AreAnsweredIn, behind}
 
 module _ {C R S : Type 0} (rules : Rules S C R) where
   abbrev Stands : S → List (Entry C R) → ℕ → Entry C R → Type 0
   Stands s history k e = (before : List (Entry C R)) × (after : List (Entry C R)) × (history ≡ before ++ e ∷ after) × (e.reply ≡ rules.reply (behind rules s before) e.command) × (length before ≡ k)
 
-  stands : (s : S) (history : List (Entry C R)) (k : ℕ) (e : Entry C R) → get_elem? history k ≡ some e → Replies rules s history → Stands s history k e
+  stands : (s : S) (history : List (Entry C R)) (k : ℕ) (e : Entry C R) → get_elem? history k ≡ some e → AreReplies rules s history → Stands s history k e
   stands s [] k e at r = absurd (none-ne-some e at)
   stands s (x ∷ xs) zero e at r = subst (Stands s (x ∷ xs) zero) (some-injective _ _ at) ([], xs, refl, r.0, refl)
   stands s (x ∷ xs) (suc k) e at r =
@@ -25,7 +25,7 @@ module _ {C R S : Type 0} (rules : Rules S C R) where
   places_of [] history w = []
   places_of (e ∷ es) history w = w.0.0 ∷ places_of es history w.1
 
-  all_at : (own history : List (Entry C R)) (w : Within own history) → Replies rules rules.first history → AreAt rules history own (places_of own history w)
+  all_at : (own history : List (Entry C R)) (w : Within own history) → AreReplies rules rules.first history → AreAt rules history own (places_of own history w)
   unfolding places_of
   all_at [] history w r = tt
   all_at (e ∷ es) history w r =
@@ -56,5 +56,5 @@ module _ {C R S : Type 0} (rules : Rules S C R) where
       let none : times e.ticket es ≡ 0 = omega arith in
       (other_place e.ticket w.0.0 e es history w.1 refl w.0.1 none, all_apart es history w.1 (λ t. let f : one_if (e.ticket == t) + times t es ≤ 1 = once t in omega arith))
 
-  pub all_answered : (history own : List (Entry C R)) → Replies rules rules.first history → IsOwnOf own history → AreAnsweredIn rules history own
+  pub all_answered : (history own : List (Entry C R)) → AreReplies rules rules.first history → IsOwnOf own history → AreAnsweredIn rules history own
   all_answered history own r o = record { places = places_of own history o.within; apart = all_apart own history o.within o.once; each = all_at own history o.within r }

@@ -5,7 +5,8 @@ use lib.ListN.{get_elem?}
 use Rattle.atomic_table.proofs.Lists.{at_set, at_longer, at_last}
 use Rattle.counted_desk.specs.declared.entry.Entry.{Entry}
 use Rattle.proxy_outside.specs.Rules.{Rules}
-use Rattle.counted_desk.specs.History.{entry, call, history_from, state_from, state_of, Replies, Rises, times, Begins, Has, Within, one_if, Call}
+use Rattle.pgw_frames.specs.Frames.{Begins}
+use Rattle.counted_desk.specs.History.{entry, call, history_from, state_from, state_of, AreReplies, Rises, times, Has, Within, one_if, Call}
 use Rattle.counted_desk.specs.Rule.{total}
 
 module _ {A : Type 0} where
@@ -54,19 +55,19 @@ module _ {A : Type 0} where
   set_at (x ∷ xs) (suc id) v w e = set_at xs id v w e
 
   pub begins_same : (xs : List A) → Begins xs xs
-  begins_same xs = ([], sym (append-nil xs))
+  begins_same xs = ([], append-nil xs)
 
   pub begins_none : (xs : List A) → Begins [] xs
   begins_none xs = (xs, refl)
 
   pub begins_more : (xs ys zs : List A) → Begins xs ys → Begins xs (ys ++ zs)
-  begins_more xs ys zs b = (b.0 ++ zs, ap (λ l. l ++ zs) b.1 ∙ append_assoc xs b.0 zs)
+  begins_more xs ys zs b = (b.0 ++ zs, sym (append_assoc xs b.0 zs) ∙ ap (λ l. l ++ zs) b.1)
 
   pub begins_trans : (xs ys zs : List A) → Begins xs ys → Begins ys zs → Begins xs zs
-  begins_trans xs ys zs b c = (b.0 ++ c.0, c.1 ∙ (ap (λ l. l ++ c.0) b.1 ∙ append_assoc xs b.0 c.0))
+  begins_trans xs ys zs b c = (b.0 ++ c.0, sym (append_assoc xs b.0 c.0) ∙ (ap (λ l. l ++ c.0) b.1 ∙ c.1))
 
   pub has_more : (xs ys : List A) (e : A) → Begins xs ys → Has xs e → Has ys e
-  has_more xs ys e b h = (h.0, subst (λ l. get_elem? l h.0 ≡ some e) (sym b.1) (at_longer xs b.0 h.0 e h.1))
+  has_more xs ys e b h = (h.0, subst (λ l. get_elem? l h.0 ≡ some e) b.1 (at_longer xs b.0 h.0 e h.1))
 
   pub within_more : (os xs ys : List A) → Begins xs ys → Within os xs → Within os ys
   within_more [] xs ys b w = tt
@@ -82,11 +83,11 @@ module _ {A : Type 0} where
   begins_shorter (x ∷ xs) [] zs b c le = absurd (omega arith)
   begins_shorter (x ∷ xs) (y ∷ ys) [] b c le = absurd (let q = b.1 in cc)
   begins_shorter (x ∷ xs) (y ∷ ys) (z ∷ zs) b c le =
-      let p : z ∷ zs ≡ x ∷ (xs ++ b.0) = b.1 in
-      let q : z ∷ zs ≡ y ∷ (ys ++ c.0) = c.1 in
-      let s : y ≡ x = cc in
-      let t : zs ≡ xs ++ b.0 = cc in
-      let u : zs ≡ ys ++ c.0 = cc in
+      let p : x ∷ (xs ++ b.0) ≡ z ∷ zs = b.1 in
+      let q : y ∷ (ys ++ c.0) ≡ z ∷ zs = c.1 in
+      let s : x ≡ y = cc in
+      let t : xs ++ b.0 ≡ zs = cc in
+      let u : ys ++ c.0 ≡ zs = cc in
       let r = begins_shorter xs ys zs (b.0, t) (c.0, u) (omega arith) in (r.0, λ i. s i ∷ r.1 i)
 
   pub drop_front : (xs ys : List A) → drop (length xs) (xs ++ ys) ≡ ys
@@ -159,6 +160,6 @@ module _ {S C R : Type 0} (rules : Rules S C R) where
   history-length s [] = refl
   history-length s (c ∷ cs) = ap suc (history-length (rules.next s c.1) cs)
 
-  pub history-replies : (s : S) (cs : List (Call C)) → Replies rules s (history_from rules s cs)
+  pub history-replies : (s : S) (cs : List (Call C)) → AreReplies rules s (history_from rules s cs)
   history-replies s [] = tt
   history-replies s (c ∷ cs) = (refl, history-replies (rules.next s c.1) cs)

@@ -8,7 +8,8 @@ use Rattle.counted_desk.specs.declared.answer.Closed.{Closed}
 use Rattle.counted_desk.specs.declared.answer.Closed.TheVariants.{Whole, Held}
 use Rattle.counted_desk.specs.declared.answer.Receipt.{Receipt}
 use Rattle.counted_desk.specs.declared.logged.Logged.{Logged}
-use Rattle.counted_desk.specs.History.{entry, call, Call, times, Begins, IsOwnOf, IsLegal, IsLegalBelow, log_of, state_of}
+use Rattle.pgw_frames.specs.Frames.{Begins}
+use Rattle.counted_desk.specs.History.{entry, call, Call, times, IsOwnOf, IsLegal, IsLegalBelow, log_of, state_of}
 use Rattle.counted_desk.specs.Seats.{Sight}
 
 -- which fault comes, by the number of entries in the journal

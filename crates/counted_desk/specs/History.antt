@@ -20,10 +20,6 @@ abbrev pub one_if : Bool → ℕ
 one_if true = 1
 one_if false = 0
 
--- ys begins with xs
-abbrev pub Begins : {A : Type 0} → List A → List A → Type 0
-Begins {A} xs ys = (more : List A) × (ys ≡ xs ++ more)
-
 -- e stands in the list
 abbrev pub Has : {A : Type 0} → List A → A → Type 0
 Has xs e = (k : ℕ) × (get_elem? xs k ≡ some e)
@@ -51,13 +47,13 @@ module _ {C R : Type 0} where
 
 module _ {S C R : Type 0} (rules : Rules S C R) where
   -- each reply is the one that the machine gives there, from this state on
-  abbrev pub Replies : S → List (Entry C R) → Type 0
-  Replies s [] = Unit {0}
-  Replies s (e ∷ es) = (e.reply ≡ rules.reply s e.command) × Replies (rules.next s e.command) es
+  abbrev pub AreReplies : S → List (Entry C R) → Type 0
+  AreReplies s [] = Unit {0}
+  AreReplies s (e ∷ es) = (e.reply ≡ rules.reply s e.command) × AreReplies (rules.next s e.command) es
 
   -- the tickets rise strictly, all below the bound, and the replies are those of one machine from its opening
   pub record IsLegalBelow (bound : ℕ) (history : List (Entry C R)) : Type 0 where
-    pub replies : Replies rules.first history
+    pub replies : AreReplies rules.first history
     pub rises : Rises 0 history bound
 
   abbrev pub IsLegal : List (Entry C R) → Type 0

@@ -10,7 +10,8 @@ use Rattle.counted_desk.specs.declared.logged.Logged.{Logged}
 use Rattle.counted_desk.specs.declared.entry.Role.{Role}
 use Rattle.counted_desk.specs.declared.entry.Role.TheVariants.{Spent, Idle, Waiting, Turn}
 use Rattle.counted_desk.specs.declared.entry.View.{View}
-use Rattle.counted_desk.specs.History.{log_of, state_of, Rises, times, Begins, Within, IsOwnOf, IsLegal, one_if, Call}
+use Rattle.pgw_frames.specs.Frames.{Begins}
+use Rattle.counted_desk.specs.History.{log_of, state_of, Rises, times, Within, IsOwnOf, IsLegal, one_if, Call}
 
 -- f of each, added up
 abbrev pub total : {A : Type 0} → (A → ℕ) → List A → ℕ

@@ -1,6 +1,7 @@
 //! The desk and its seats.
 ghost use Rattle.std.specs.Prelude.{◌≡◌, [], ◌++◌, ◌⊎◌, IfOk, IfErr};
-ghost use Rattle.counted_desk.specs.History.{IsLegal, Begins, IsOwnOf, AreAnsweredIn};
+ghost use Rattle.pgw_frames.specs.Frames.{Begins};
+ghost use Rattle.counted_desk.specs.History.{IsLegal, IsOwnOf, AreAnsweredIn};
 
 use crate::answer::{CallFault, Closed, Receipt};
 use crate::journal::Journal;

@@ -3,7 +3,8 @@
 //! A ticket is drawn only where all that were drawn before were served, so that a thread that waits has
 //! none. Calls are served in the order in which they drew, which may not be the one in which they came.
 ghost use Rattle.std.specs.Prelude.{◌≡◌, ℕ, ◌<◌, ◌+◌, ◌^◌, [], ◌∷◌, ◌≤◌, Some, None, IfOk, IfSome};
-ghost use Rattle.counted_desk.specs.History.{IsLegal, Begins, IsOwnOf, log_of};
+ghost use Rattle.pgw_frames.specs.Frames.{Begins};
+ghost use Rattle.counted_desk.specs.History.{IsLegal, IsOwnOf, log_of};
 ghost use Rattle.counted_desk.specs.Rule.{Took, HasTurn, IsDue, IsAtEnd, drawn, at_turn, after_turn, copied, joined, newcomer};
 ghost use Rattle.counted_desk.specs.declared.entry.Role.TheVariants.{Idle, Waiting, Turn};
 

@@ -15,7 +15,7 @@ use Rattle.forwarder_world.specs.Link as link
 use Rattle.forwarder_world.specs.Link.{Link}
 use Rattle.session_model.specs.Heard.{has_ready}
 use Rattle.forwarder_world.specs.World.{World, Mode, Running, Stop, Exchanging, Closed, forwarding, passing, may_give, gives, reads, hands_out, writes, forwards, passes, closes, pod_takes, pod_takes_client, pod_takes_own, stops, parks, holds, begins, moves, changes_new, new_pod, new_pod_by, new_hears, steps, is_closed}
-use Rattle.forwarder_world.specs.Turns.{is_exchange, Begins, BeginsSafely, Resumes}
+use Rattle.forwarder_world.specs.Turns.{is_exchange, BeginsExchange, BeginsSafely, Resumes}
 use Rattle.forwarder_world.specs.declared.event.Event.{Event}
 use Rattle.forwarder_world.specs.declared.event.Event.TheVariants as event
 use Rattle.forwarder_world.specs.declared.event.Close.TheVariants.{Bye, ClientCut, PodEnded, PodWrite}
@@ -92,10 +92,10 @@ module _ {S T C R : Type 0} (k : Kind S C R) (rules : Rules T C R) (key : Client
   not_tame : (w : World S T C) (t : TransferKey) (x : Stage) → w.mode ≡ Exchanging t x → Tame w → ⊥
   not_tame w t x e h = let q : is_exchange (Exchanging t x) ≡ false = subst (λ (m : Mode). is_exchange m ≡ false) e h in absurd cc
 
-  starts : (w : World S T C) (u t : TransferKey) (x : Stage) (m : Mode) → w.mode ≡ m → Tame w → (begins w u m).mode ≡ Exchanging t x → Begins w (begins w u m) (event.Start u) t x
+  starts : (w : World S T C) (u t : TransferKey) (x : Stage) (m : Mode) → w.mode ≡ m → Tame w → (begins w u m).mode ≡ Exchanging t x → BeginsExchange w (begins w u m) (event.Start u) t x
   starts w u t x (Stop true true) e h is = by (safe w.forwarded (behind_greeting w.passed)) refl is
     where
-      by : (b : Bool) → safe w.forwarded (behind_greeting w.passed) ≡ b → (if b then Exchanging u at.AskOld else Running) ≡ Exchanging t x → Begins w (record w { mode = if safe w.forwarded (behind_greeting w.passed) then Exchanging u at.AskOld else Running }) (event.Start u) t x
+      by : (b : Bool) → safe w.forwarded (behind_greeting w.passed) ≡ b → (if b then Exchanging u at.AskOld else Running) ≡ Exchanging t x → BeginsExchange w (record w { mode = if safe w.forwarded (behind_greeting w.passed) then Exchanging u at.AskOld else Running }) (event.Start u) t x
       by false s i = absurd cc
       by true s i =
           let same : u ≡ t = cc in
@@ -111,7 +111,7 @@ module _ {S T C R : Type 0} (k : Kind S C R) (rules : Rules T C R) (key : Client
   starts w u t x (Exchanging v y) e h is = absurd (not_tame w t x is h)
   starts w u t x (Closed c) e h is = absurd (not_tame w t x is h)
 
-  steps_begin : (w : World S T C) (e : Event C) (t : TransferKey) (x : Stage) → Tame w → (steps k rules key p w e).mode ≡ Exchanging t x → Begins w (steps k rules key p w e) e t x
+  steps_begin : (w : World S T C) (e : Event C) (t : TransferKey) (x : Stage) → Tame w → (steps k rules key p w e).mode ≡ Exchanging t x → BeginsExchange w (steps k rules key p w e) e t x
   steps_begin w (event.Give b) t x h is = absurd (not_tame (steps k rules key p w (event.Give b)) t x is (cond_both (may_give w b) (gives w b) w Tame (λ e. h) (λ e. h)))
   steps_begin w event.Eof t x h is = absurd (not_tame w t x is h)
   steps_begin w (event.Read n) t x h is = absurd (not_tame (steps k rules key p w (event.Read n)) t x is (cond_both (forwarding w.mode) (reads w n) w Tame (λ e. h) (λ e. h)))
@@ -136,7 +136,7 @@ module _ {S T C R : Type 0} (k : Kind S C R) (rules : Rules T C R) (key : Client
 
   pub begins_safely : (w : World S T C) (e : Event C) → BeginsSafely k rules key p w e
   begins_safely w e t x h is =
-      cond_both (is_closed w.mode) w (steps k rules key p w e) (λ v. v.mode ≡ Exchanging t x → Begins w v e t x) (λ c i. absurd (not_tame w t x i h)) (λ c i. steps_begin w e t x h i) is
+      cond_both (is_closed w.mode) w (steps k rules key p w e) (λ v. v.mode ≡ Exchanging t x → BeginsExchange w v e t x) (λ c i. absurd (not_tame w t x i h)) (λ c i. steps_begin w e t x h i) is
 
   pub resumes : (w : World S T C) (t : TransferKey) → Resumes k rules key p w t
   resumes w t e s = ap (λ (m : Mode). if is_closed m then w else begins w t m) e ∙ ap (λ (b : Bool). record w { mode = if b then Exchanging t at.AskOld else Running }) s

@@ -30,14 +30,14 @@ is_exchange (Stop parked held) = false
 is_exchange (Closed c) = false
 
 -- an exchange begins only by a start with both sides suspended at a safe point, and nothing is sent yet
-pub record Begins {S T C : Type 0} (w v : World S T C) (e : Event C) (t : TransferKey) (x : Stage) : Type 0 where
+pub record BeginsExchange {S T C : Type 0} (w v : World S T C) (e : Event C) (t : TransferKey) (x : Stage) : Type 0 where
   pub by_start : e ≡ event.Start t
   pub suspended : w.mode ≡ Stop true true
   pub is_safe : safe w.forwarded (behind_greeting w.passed) ≡ true
   pub is_only_that : v ≡ record w { mode = Exchanging t at.AskOld }
 
 abbrev pub BeginsSafely : {S T C R : Type 0} → Kind S C R → Rules T C R → ClientKey → List Pair → World S T C → Event C → Type 0
-BeginsSafely k rules key p w e = (t : TransferKey) (x : Stage) → is_exchange w.mode ≡ false → (happens k rules key p w e).mode ≡ Exchanging t x → Begins w (happens k rules key p w e) e t x
+BeginsSafely k rules key p w e = (t : TransferKey) (x : Stage) → is_exchange w.mode ≡ false → (happens k rules key p w e).mode ≡ Exchanging t x → BeginsExchange w (happens k rules key p w e) e t x
 
 -- a start that is not safe lets both sides go on, and sends nothing
 abbrev pub Resumes : {S T C R : Type 0} → Kind S C R → Rules T C R → ClientKey → List Pair → World S T C → TransferKey → Type 0

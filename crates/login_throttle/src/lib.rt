@@ -8,7 +8,7 @@
 
 mod allowance;
 mod pair;
-mod row;
+mod streak;
 mod throttle;
 
 pub use allowance::Allowance;

@@ -2,11 +2,11 @@
 
 ghost use Rattle.std.specs.Prelude.{◌≡◌, false, List, [], ◌∷◌, OnOk, OnErr};
 ghost use Rattle.login_throttle.specs.Reports.{Report, allowed};
-ghost use Rattle.login_throttle.specs.Rows.{StandsFor, Keeps};
+ghost use Rattle.login_throttle.specs.Streaks.{StandsFor, Keeps};
 
 use crate::allowance::Allowance;
 use crate::pair::Pair;
-use crate::row::Row;
+use crate::streak::Streak;
 use pgw_frames::NoMemory;
 use proxy_outside::{Addr, TenantId};
 use std::alloc::Global;
@@ -17,7 +17,7 @@ use std::collections::BTreeMap;
 /// it by a relation to the list of all reports, the newest first, which it does not keep.
 #[derive(Drop)]
 pub struct Throttle {
-    rows: BTreeMap<Pair, Row>,
+    streaks: BTreeMap<Pair, Streak>,
 }
 
 impl Throttle {
@@ -26,7 +26,7 @@ impl Throttle {
         ensures { StandsFor result [] }
     {
         Throttle {
-            rows: BTreeMap::new(alloc),
+            streaks: BTreeMap::new(alloc),
         }
     }
 
@@ -35,11 +35,11 @@ impl Throttle {
     pub fn check(&self, addr: &Addr, tenant: TenantId, now: u64) -> Allowance
         ensures { (reports : List Report) → StandsFor self.now reports → result ≡ allowed reports addr.now tenant now }
     {
-        match self.rows.get(&Pair {
+        match self.streaks.get(&Pair {
             tenant,
             addr: *addr,
         }) {
-            Some(row) => row.allowance(now),
+            Some(streak) => streak.allowance(now),
             None => Allowance::Go,
         }
     }
@@ -61,7 +61,7 @@ impl Throttle {
             addr: *addr,
         };
         if ok {
-            self.rows.remove(&pair);
+            self.streaks.remove(&pair);
             return Ok(());
         }
         self.add_failure(pair, now)
@@ -71,11 +71,11 @@ impl Throttle {
         ensures ok { OnOk result ((reports : List Report) → StandsFor self.old reports → StandsFor self.new (record { addr = pair.addr; tenant = pair.tenant; ok = false; moment = now } ∷ reports)) }
         ensures err { OnErr result (Keeps self.old self.new) }
     {
-        if let Some(row) = self.rows.get_mut(&pair) {
-            *row = row.next(now);
+        if let Some(streak) = self.streaks.get_mut(&pair) {
+            *streak = streak.next(now);
             return Ok(());
         }
-        self.rows.insert(pair, Row::first(now))?;
+        self.streaks.insert(pair, Streak::first(now))?;
         Ok(())
     }
 }

@@ -23,7 +23,7 @@ use Rattle.mini_store.specs.Operations.{Done, adding, creates, deleting, effect,
 use Rattle.mini_store.specs.Rising.{AllRise, Rises}
 use Rattle.mini_store.specs.Tables.{TableOf, is_called, rows_in, table_in, with_rows}
 use Rattle.mini_store.specs.Transactions.{first_difference, next_tables, store_rules, tables_behind, tables_committed}
-use Rattle.mini_store.specs.Values.{Row, added, changed, hits, misses}
+use Rattle.mini_store.specs.Values.{Datums, added, changed, hits, misses}
 use Rattle.mini_store.proofs.Keeps.{rises_added, rises_changed, rises_filtered}
 
 -- what holds of an answer that is no code
@@ -50,11 +50,11 @@ found : (ts : List TableOf) (n : List ℕ) → AllRise ts → Holds (λ t. Rises
 found [] n h = tt
 found (t ∷ ts) n h = found_by ts t n (is_called n t) h.0 (found ts n h.1)
 
-given_by : (ts : List TableOf) (t : TableOf) (n : List ℕ) (rows : List Row) (b : Bool) → Rises rows → Rises t.rows → AllRise ts → AllRise (with_rows n rows ts) → AllRise (if b then record t { rows = rows } ∷ ts else t ∷ with_rows n rows ts)
+given_by : (ts : List TableOf) (t : TableOf) (n : List ℕ) (rows : List Datums) (b : Bool) → Rises rows → Rises t.rows → AllRise ts → AllRise (with_rows n rows ts) → AllRise (if b then record t { rows = rows } ∷ ts else t ∷ with_rows n rows ts)
 given_by ts t n rows true new h all more = (new, all)
 given_by ts t n rows false new h all more = (h, more)
 
-given_rows : (ts : List TableOf) (n : List ℕ) (rows : List Row) → Rises rows → AllRise ts → AllRise (with_rows n rows ts)
+given_rows : (ts : List TableOf) (n : List ℕ) (rows : List Datums) → Rises rows → AllRise ts → AllRise (with_rows n rows ts)
 given_rows [] n rows new h = tt
 given_rows (t ∷ ts) n rows new h = given_by ts t n rows (is_called n t) new h.0 h.1 (given_rows ts n rows new h.1)
 
@@ -81,7 +81,7 @@ create_rises : (ts : List TableOf) (n : List ℕ) (cs : List ColumnDef) → AllR
 create_rises ts n cs h = create_by _ _ _ _ (record { answer = answer.Made; tables = ts ++ record { name = n; columns = cs; rows = [] } ∷ [] }) (one_more ts (record { name = n; columns = cs; rows = [] }) (tt {0}) h)
 
 -- rows that may be refused
-kept_count : (n : ℕ) (rows : OrCode (List Row)) → Holds Rises rows → Holds ChangeRises (rows >>= (λ rs. Ok (record { count = n; rows = rs })))
+kept_count : (n : ℕ) (rows : OrCode (List Datums)) → Holds Rises rows → Holds ChangeRises (rows >>= (λ rs. Ok (record { count = n; rows = rs })))
 kept_count n (Ok rs) h = h
 kept_count n (Err c) h = tt
 
@@ -97,7 +97,7 @@ delete_rises ts n f h =
     (λ t up. after_any ChangeRises (must code.ProgramLimitExceeded (is_short n && is_small_filter f)) _
     (λ _. after_any ChangeRises (match_of t.columns f) _ (λ hit. rises_filtered (misses hit) t.rows up)))
 
-changed_rise : (p : ℕ) (x : Datum) (h : Option Hit) (rs : List Row) → Rises rs → Holds Rises (rows_changed p x h rs)
+changed_rise : (p : ℕ) (x : Datum) (h : Option Hit) (rs : List Datums) → Rises rs → Holds Rises (rows_changed p x h rs)
 changed_rise zero x h rs up = rises_added (map (changed zero x h) rs) [] (tt {0})
 changed_rise (suc p) x h rs up = rises_changed p x h rs up
 

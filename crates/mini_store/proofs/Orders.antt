@@ -4,7 +4,7 @@ use Rattle.std.specs.Ordering.{is_eq, is_lt, ordering_reverse}
 use Rattle.std.proofs.lemmas.Cmp.{int_cmp_total, nat_list_cmp_total}
 use Rattle.mini_store.specs.declared.datum.Datum.{Datum}
 use Rattle.mini_store.specs.declared.datum.Datum.TheVariants as datum
-use Rattle.mini_store.specs.Values.{Row, datum_order, row_order}
+use Rattle.mini_store.specs.Values.{Datums, datum_order, row_order}
 
 pub datum_trans : (d e f : Datum) → datum_order d e ≡ Less → datum_order e f ≡ Less → datum_order d f ≡ Less
 datum_trans (datum.Number n) (datum.Number m) (datum.Number k) a b = int_cmp_total.trans n m k a b
@@ -29,7 +29,7 @@ datum_back (datum.Number n) (datum.Text t) = refl
 datum_back (datum.Text t) (datum.Number n) = refl
 datum_back (datum.Text s) (datum.Text t) = nat_list_cmp_total.antisymm s t
 
-pub row_trans : (r s t : Row) → row_order r s ≡ Less → row_order s t ≡ Less → row_order r t ≡ Less
+pub row_trans : (r s t : Datums) → row_order r s ≡ Less → row_order s t ≡ Less → row_order r t ≡ Less
 row_trans [] [] t a b = cc
 row_trans [] (e ∷ s) [] a b = cc
 row_trans [] (e ∷ s) (f ∷ t) a b = refl
@@ -37,19 +37,19 @@ row_trans (d ∷ r) [] t a b = cc
 row_trans (d ∷ r) (e ∷ s) [] a b = cc
 row_trans (d ∷ r) (e ∷ s) (f ∷ t) a b = datum_trans d e f a b
 
-pub row_back : (r s : Row) → row_order r s ≡ ordering_reverse (row_order s r)
+pub row_back : (r s : Datums) → row_order r s ≡ ordering_reverse (row_order s r)
 row_back [] [] = refl
 row_back [] (e ∷ s) = refl
 row_back (d ∷ r) [] = refl
 row_back (d ∷ r) (e ∷ s) = datum_back d e
 
 -- neither below the other nor of its key is above it
-above_by : (r s : Row) (o : Ordering) → row_order r s ≡ o → is_lt o ≡ false → is_eq o ≡ false → row_order s r ≡ Less
+above_by : (r s : Datums) (o : Ordering) → row_order r s ≡ o → is_lt o ≡ false → is_eq o ≡ false → row_order s r ≡ Less
 above_by r s Less e a b = cc
 above_by r s Equal e a b = cc
 above_by r s Greater e a b = row_back s r ∙ ap ordering_reverse e
 
-pub above : (r s : Row) → is_lt (row_order r s) ≡ false → is_eq (row_order r s) ≡ false → row_order s r ≡ Less
+pub above : (r s : Datums) → is_lt (row_order r s) ≡ false → is_eq (row_order r s) ≡ false → row_order s r ≡ Less
 above r s a b = above_by r s (row_order r s) refl a b
 
 below_by : (o : Ordering) → is_lt o ≡ true → o ≡ Less
@@ -57,5 +57,5 @@ below_by Less e = refl
 below_by Equal e = cc
 below_by Greater e = cc
 
-pub below : (r s : Row) → is_lt (row_order r s) ≡ true → row_order r s ≡ Less
+pub below : (r s : Datums) → is_lt (row_order r s) ≡ true → row_order r s ≡ Less
 below r s e = below_by (row_order r s) e

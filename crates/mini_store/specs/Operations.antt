@@ -18,7 +18,7 @@ use Rattle.mini_store.specs.declared.row.Hit.{Hit}
 use Rattle.mini_store.specs.Answers.{OrCode, ◌>>=◌, before, must}
 use Rattle.mini_store.specs.Limits.{are_short_names, are_small, has_room, is_short, is_small_filter, is_small_match}
 use Rattle.mini_store.specs.Tables.{TableOf, is_called, rows_in, table_in, with_rows}
-use Rattle.mini_store.specs.Values.{Row, added, changed, column_of, datum_of, has_no_number, hits, is_no_number, misses, picked, rows_of}
+use Rattle.mini_store.specs.Values.{Datums, added, changed, column_of, datum_of, has_no_number, hits, is_no_number, misses, picked, rows_of}
 
 -- an answer, and the tables behind it
 pub record Done : Type 0 where
@@ -49,7 +49,7 @@ creates ts n cs =
 
 -- ---- new rows
 
-abbrev pub new_rows : Bool → List ColumnDef → List (List Given) → OrCode (List Row)
+abbrev pub new_rows : Bool → List ColumnDef → List (List Given) → OrCode (List Datums)
 new_rows fits cs rs =
     must code.ProgramLimitExceeded fits >>= (λ _.
     must code.SyntaxError (list_all (λ (r : List Given). length r == length cs) rs) >>= (λ _.
@@ -114,7 +114,7 @@ deleting ts n f =
     Ok (record { count = length (filter (hits h) t.rows); rows = filter (misses h) t.rows }))))
 
 -- all rows are made first; where their keys change they are put in anew
-abbrev pub rows_changed : ℕ → Datum → Option Hit → List Row → OrCode (List Row)
+abbrev pub rows_changed : ℕ → Datum → Option Hit → List Datums → OrCode (List Datums)
 rows_changed zero x h rs = added [] (map (changed zero x h) rs)
 rows_changed (suc p) x h rs = Ok (map (changed (suc p) x h) rs)
 

@@ -4,12 +4,12 @@ use Rattle.std.specs.Str.{bytes_eq}
 use Rattle.sql_text.specs.declared.stmt.ColumnDef.{ColumnDef}
 use Rattle.mini_store.specs.declared.code.SqlCode.TheVariants as code
 use Rattle.mini_store.specs.Answers.{OrCode}
-use Rattle.mini_store.specs.Values.{Row}
+use Rattle.mini_store.specs.Values.{Datums}
 
 pub record TableOf : Type 0 where
   pub name : List ℕ
   pub columns : List ColumnDef
-  pub rows : List Row
+  pub rows : List Datums
 
 abbrev pub is_called : List ℕ → TableOf → Bool
 is_called n t = bytes_eq t.name n
@@ -19,7 +19,7 @@ abbrev pub table_in : List TableOf → List ℕ → OrCode TableOf
 table_in [] n = Err code.UndefinedTable
 table_in (t ∷ ts) n = if is_called n t then Ok t else table_in ts n
 
-abbrev pub with_rows : List ℕ → List Row → List TableOf → List TableOf
+abbrev pub with_rows : List ℕ → List Datums → List TableOf → List TableOf
 with_rows n rows [] = []
 with_rows n rows (t ∷ ts) = if is_called n t then record t { rows = rows } ∷ ts else t ∷ with_rows n rows ts
 

@@ -17,7 +17,7 @@ use Rattle.mini_store.specs.declared.op.Op.{Op}
 use Rattle.mini_store.specs.Codes.{digits_of}
 use Rattle.mini_store.specs.Operations.{answer_to, tables_after}
 use Rattle.mini_store.specs.Tables.{TableOf}
-use Rattle.mini_store.specs.Values.{Row, datum_order}
+use Rattle.mini_store.specs.Values.{Datums, datum_order}
 
 -- ---- equal answers
 
@@ -30,7 +30,7 @@ are_same same (x ∷ xs) (y ∷ ys) = if same x y then are_same same xs ys else 
 abbrev pub is_same_datum : Datum → Datum → Bool
 is_same_datum d e = is_eq (datum_order d e)
 
-abbrev pub is_same_row : Row → Row → Bool
+abbrev pub is_same_row : Datums → Datums → Bool
 is_same_row r s = are_same is_same_datum r s
 
 abbrev pub is_same_kind : Kind → Kind → Bool
@@ -56,7 +56,7 @@ abbrev pub is_count : ℕ → Answer → Bool
 is_count n (answer.Count m) = n == m
 is_count n b = false
 
-abbrev pub are_rows : List ColumnDef → List Row → Answer → Bool
+abbrev pub are_rows : List ColumnDef → List Datums → Answer → Bool
 are_rows cs rs (answer.Rows ds ss) = is_same_shape cs ds && are_same is_same_row rs ss
 are_rows cs rs b = false
 

@@ -20,8 +20,8 @@ use Rattle.mini_store.specs.declared.columns.Column.{Column}
 use Rattle.mini_store.specs.declared.row.Hit.{Hit}
 use Rattle.mini_store.specs.Answers.{OrCode, ◌>>=◌, before}
 
-abbrev pub Row : Type 0
-Row = List Datum
+abbrev pub Datums : Type 0
+Datums = List Datum
 
 -- numbers by their order, texts by their bytes
 abbrev pub datum_order : Datum → Datum → Ordering
@@ -31,7 +31,7 @@ datum_order (datum.Text t) (datum.Number n) = Greater
 datum_order (datum.Text t) (datum.Text u) = slice_cmp nat_cmp t u
 
 -- rows by their first values, which are their keys
-abbrev pub row_order : Row → Row → Ordering
+abbrev pub row_order : Datums → Datums → Ordering
 row_order [] [] = Equal
 row_order [] (e ∷ s) = Less
 row_order (d ∷ r) [] = Greater
@@ -75,12 +75,12 @@ has_no_number (c ∷ cs) [] = false
 has_no_number (c ∷ cs) (g ∷ gs) = if is_no_number c.kind g then true else has_no_number cs gs
 
 -- given values as a row
-abbrev pub row_of : List ColumnDef → List Given → OrCode Row
+abbrev pub row_of : List ColumnDef → List Given → OrCode Datums
 row_of [] gs = Ok []
 row_of (c ∷ cs) [] = Ok []
 row_of (c ∷ cs) (g ∷ gs) = datum_of c.kind g >>= (λ d. before d (row_of cs gs))
 
-abbrev pub rows_of : List ColumnDef → List (List Given) → OrCode (List Row)
+abbrev pub rows_of : List ColumnDef → List (List Given) → OrCode (List Datums)
 rows_of cs [] = Ok []
 rows_of cs (gs ∷ more) = row_of cs gs >>= (λ r. before r (rows_of cs more))
 
@@ -91,12 +91,12 @@ is_datum None x = false
 is_datum (Some d) x = is_eq (datum_order d x)
 
 -- a row has a value under a column; no filter takes all rows
-abbrev pub hits : Option Hit → Row → Bool
+abbrev pub hits : Option Hit → Datums → Bool
 hits None r = true
 hits (Some h) r = is_datum (slice_get r h.place) h.value
 
 -- a row that isn't hit
-abbrev pub misses : Option Hit → Row → Bool
+abbrev pub misses : Option Hit → Datums → Bool
 misses None r = false
 misses (Some h) r = not (is_datum (slice_get r h.place) h.value)
 
@@ -105,18 +105,18 @@ abbrev pub picked : {A : Type 0} → List ℕ → List A → List A
 picked ps xs = flat_map (λ p. option_to_list (slice_get xs p)) ps
 
 -- a row with another value at a place, where it is hit
-abbrev pub changed : ℕ → Datum → Option Hit → Row → Row
+abbrev pub changed : ℕ → Datum → Option Hit → Datums → Datums
 changed p x h r = if hits h r then slice_set r p x else r
 
 -- a row put before the first one of a greater key
-abbrev pub placed : Row → List Row → List Row
+abbrev pub placed : Datums → List Datums → List Datums
 placed r [] = r ∷ []
 placed r (s ∷ rs) = if is_lt (row_order r s) then r ∷ s ∷ rs else s ∷ placed r rs
 
-abbrev pub has_key : Row → List Row → Bool
+abbrev pub has_key : Datums → List Datums → Bool
 has_key r rs = list_any (λ s. is_eq (row_order r s)) rs
 
 -- rows put among others, each at its place, unless two have one key
-abbrev pub added : List Row → List Row → OrCode (List Row)
+abbrev pub added : List Datums → List Datums → OrCode (List Datums)
 added rs [] = Ok rs
 added rs (r ∷ more) = if has_key r rs then Err code.UniqueViolation else added (placed r rs) more

@@ -10,7 +10,7 @@ use crate::code::SqlCode;
 use crate::columns::Column;
 use crate::datum::{Datum, DatumRow, Given, GivenList, Match};
 use crate::fault::{Fault, must};
-use crate::row::{Hit, Row};
+use crate::row::{Hit, StoredRow};
 use pgw_frames::Text;
 use pgw_messages::Items;
 use sql_text::{ColumnDef, Kind, read_number};
@@ -137,13 +137,17 @@ fn row_of(alloc: Global, columns: &[ColumnDef], givens: &[Given]) -> Result<Datu
     Ok(row)
 }
 
-fn rows_of(alloc: Global, columns: &[ColumnDef], rows: &[GivenList]) -> Result<Items<Row>, Fault>
+fn rows_of(
+    alloc: Global,
+    columns: &[ColumnDef],
+    rows: &[GivenList],
+) -> Result<Items<StoredRow>, Fault>
     ensures { Gives result (rows_of columns.now rows.now) }
 {
     let mut out = Items::new(alloc);
     for givens in rows {
         let row = row_of(alloc, columns, givens.as_slice())?;
-        out.push(Row::make(alloc, row)?)?;
+        out.push(StoredRow::make(alloc, row)?)?;
     }
     Ok(out)
 }
@@ -154,7 +158,7 @@ pub(crate) fn new_rows(
     fits: bool,
     columns: &[ColumnDef],
     rows: &[GivenList],
-) -> Result<Items<Row>, Fault>
+) -> Result<Items<StoredRow>, Fault>
     ensures { Gives result (new_rows fits columns.now rows.now) }
 {
     must(SqlCode::ProgramLimitExceeded, fits)?;

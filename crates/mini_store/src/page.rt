@@ -9,7 +9,7 @@ ghost use Rattle.mini_store.specs.Rising.{Rises};
 ghost use Rattle.mini_store.specs.Values.{changed, has_key, hits, misses, picked, placed, row_order};
 
 use crate::datum::{Datum, DatumRows};
-use crate::row::{Hit, Row, row_order};
+use crate::row::{Hit, StoredRow, row_order};
 use crate::row_lists::{change_rows, count_rows, pick_rows, place_row, rows_without, share_rows};
 use pgw_frames::NoMemory;
 use std::alloc::Global;
@@ -22,7 +22,7 @@ const PAGE_ROWS: usize = 256;
 /// Rows that rise by their keys. Contracts see the list.
 #[derive(Drop)]
 pub(crate) struct Page {
-    rows: Arc<Vec<Row>>,
+    rows: Arc<Vec<StoredRow>>,
 }
 
 impl Model for Page {
@@ -39,7 +39,7 @@ impl Model for Page {
 }
 
 impl Page {
-    pub(crate) fn make(alloc: Global, rows: Vec<Row>) -> Result<Page, NoMemory>
+    pub(crate) fn make(alloc: Global, rows: Vec<StoredRow>) -> Result<Page, NoMemory>
         requires { Rises rows.items }
         ensures { IfOk result (λ p. p ≡ rows.items) }
     {
@@ -57,7 +57,7 @@ impl Page {
         })
     }
 
-    pub(crate) fn rows(&self) -> &[Row]
+    pub(crate) fn rows(&self) -> &[StoredRow]
         ensures rows { result.now ≡ self.now }
         ensures rises { Rises self.now }
     {
@@ -77,7 +77,7 @@ impl Page {
     }
 
     #[tactic(auto, using(crate::proofs::Ends::last_is))]
-    fn last(&self) -> Option<&Row>
+    fn last(&self) -> Option<&StoredRow>
         ensures last { option_copied result ≡ last_of self.now }
         ensures rises { Rises self.now }
     {
@@ -123,7 +123,7 @@ impl Page {
 
     /// Whether a row has a greater key than this one.
     #[tactic(auto, using(crate::proofs::Ends::above_is, crate::proofs::Ends::above_nowhere))]
-    pub(crate) fn has_above(&self, row: &Row) -> bool
+    pub(crate) fn has_above(&self, row: &StoredRow) -> bool
         ensures { result ≡ has_above row.now self.now }
     {
         match self.last() {
@@ -208,7 +208,7 @@ impl Page {
 
     /// The rows with one more at its place.
     #[tactic(auto, using(crate::proofs::Keeps::rises_placed))]
-    pub(crate) fn with(&self, alloc: Global, row: Row) -> Result<Page, NoMemory>
+    pub(crate) fn with(&self, alloc: Global, row: StoredRow) -> Result<Page, NoMemory>
         requires { has_key row self.now ≡ false }
         ensures { IfOk result (λ p. p ≡ placed row self.now) }
     {

@@ -22,11 +22,11 @@ pub(crate) struct Hit {
 
 /// A row that tables share. Contracts see it as its values.
 #[derive(Drop)]
-pub(crate) struct Row {
+pub(crate) struct StoredRow {
     values: Arc<DatumRow>,
 }
 
-impl Model for Row {
+impl Model for StoredRow {
     ghost use Rattle.std.specs.Prelude.{List};
     ghost use Rattle.std.specs.Arc.{arc_value};
     ghost use Rattle.mini_store.specs.declared.datum.Datum.{Datum};
@@ -36,20 +36,20 @@ impl Model for Row {
     ghost view = { λ r. arc_value r.values };
 }
 
-impl Row {
-    pub(crate) fn make(alloc: Global, values: DatumRow) -> Result<Row, NoMemory>
+impl StoredRow {
+    pub(crate) fn make(alloc: Global, values: DatumRow) -> Result<StoredRow, NoMemory>
         ensures { IfOk result (λ r. r ≡ values) }
     {
-        Ok(Row {
+        Ok(StoredRow {
             values: Arc::new(alloc, values)?,
         })
     }
 
     /// The same row once more, without a copy of its values.
-    pub(crate) fn share(&self) -> Result<Row, NoMemory>
+    pub(crate) fn share(&self) -> Result<StoredRow, NoMemory>
         ensures { IfOk result (λ r. r ≡ self.now) }
     {
-        Ok(Row {
+        Ok(StoredRow {
             values: Arc::try_clone(&self.values)?,
         })
     }
@@ -67,19 +67,19 @@ impl Row {
     }
 
     /// By the first values, which are the keys.
-    pub(crate) fn order(&self, other: &Row) -> Ordering
+    pub(crate) fn order(&self, other: &StoredRow) -> Ordering
         ensures { result ≡ row_order self.now other.now }
     {
         row_order(self.values(), other.values())
     }
 
-    pub(crate) fn has_key_of(&self, other: &Row) -> bool
+    pub(crate) fn has_key_of(&self, other: &StoredRow) -> bool
         ensures { result ≡ is_eq (row_order self.now other.now) }
     {
         self.order(other).is_eq()
     }
 
-    pub(crate) fn is_below(&self, other: &Row) -> bool
+    pub(crate) fn is_below(&self, other: &StoredRow) -> bool
         ensures { result ≡ is_lt (row_order self.now other.now) }
     {
         self.order(other).is_lt()
@@ -132,7 +132,7 @@ impl Row {
     }
 
     /// The row with another value at this place.
-    fn with(&self, alloc: Global, place: usize, value: &Datum) -> Result<Row, NoMemory>
+    fn with(&self, alloc: Global, place: usize, value: &Datum) -> Result<StoredRow, NoMemory>
         ensures { IfOk result (λ r. r ≡ slice_set self.now place value.now) }
     {
         let mut row = self.copy(alloc)?.into_vec();
@@ -140,7 +140,7 @@ impl Row {
         if let Some(datum) = row.get_mut(place) {
             *datum = value;
         }
-        Row::make(alloc, Items::from_vec(row))
+        StoredRow::make(alloc, Items::from_vec(row))
     }
 
     /// The row with another value at this place, where it is hit.
@@ -150,7 +150,7 @@ impl Row {
         place: usize,
         value: &Datum,
         hit: &Option<Hit>,
-    ) -> Result<Row, NoMemory>
+    ) -> Result<StoredRow, NoMemory>
         ensures { IfOk result (λ r. r ≡ changed place value.now hit.now self.now) }
     {
         if self.is_hit(hit) {

@@ -6,11 +6,11 @@ ghost use Rattle.std.specs.Ordering.{is_lt};
 ghost use Rattle.mini_store.specs.Values.{changed, hits, misses, picked, placed, row_order};
 
 use crate::datum::{Datum, DatumRows};
-use crate::row::{Hit, Row};
+use crate::row::{Hit, StoredRow};
 use pgw_frames::NoMemory;
 use std::alloc::Global;
 
-pub(crate) fn share_rows(alloc: Global, rows: &[Row]) -> Result<Vec<Row>, NoMemory>
+pub(crate) fn share_rows(alloc: Global, rows: &[StoredRow]) -> Result<Vec<StoredRow>, NoMemory>
     ensures { IfOk result (λ rs. rs.items ≡ rows.now) }
 {
     let mut shared = Vec::with_capacity(alloc, rows.len())?;
@@ -20,7 +20,7 @@ pub(crate) fn share_rows(alloc: Global, rows: &[Row]) -> Result<Vec<Row>, NoMemo
     Ok(shared)
 }
 
-pub(crate) fn count_rows(rows: &[Row], hit: &Option<Hit>) -> usize
+pub(crate) fn count_rows(rows: &[StoredRow], hit: &Option<Hit>) -> usize
     ensures { result ≡ length (filter (hits hit.now) rows.now) }
 {
     let mut count = 0;
@@ -34,7 +34,7 @@ pub(crate) fn count_rows(rows: &[Row], hit: &Option<Hit>) -> usize
 
 pub(crate) fn pick_rows(
     alloc: Global,
-    rows: &[Row],
+    rows: &[StoredRow],
     places: &[usize],
     hit: &Option<Hit>,
     out: &mut DatumRows,
@@ -51,9 +51,9 @@ pub(crate) fn pick_rows(
 
 pub(crate) fn rows_without(
     alloc: Global,
-    rows: &[Row],
+    rows: &[StoredRow],
     hit: &Option<Hit>,
-) -> Result<Vec<Row>, NoMemory>
+) -> Result<Vec<StoredRow>, NoMemory>
     ensures { IfOk result (λ rs. rs.items ≡ filter (misses hit.now) rows.now) }
 {
     let mut left = Vec::new(alloc);
@@ -68,11 +68,11 @@ pub(crate) fn rows_without(
 /// Adds the rows, those that are hit with another value at this place.
 pub(crate) fn change_rows(
     alloc: Global,
-    rows: &[Row],
+    rows: &[StoredRow],
     place: usize,
     value: &Datum,
     hit: &Option<Hit>,
-    out: &mut Vec<Row>,
+    out: &mut Vec<StoredRow>,
 ) -> Result<(), NoMemory>
     ensures { OnOk result (out.new.items ≡ out.old.items ++ map (changed place value.now hit.now) rows.now) }
 {
@@ -83,14 +83,14 @@ pub(crate) fn change_rows(
 }
 
 /// The place of the first row of a greater key.
-fn place_above(rows: &[Row], row: &Row) -> Option<usize>
+fn place_above(rows: &[StoredRow], row: &StoredRow) -> Option<usize>
     ensures { result ≡ position (λ s. is_lt (row_order row.now s)) rows.now }
 {
     rows.iter().position(|other| row.is_below(other))
 }
 
 /// Puts a row before the first one of a greater key.
-pub(crate) fn place_row(rows: &mut Vec<Row>, row: Row) -> Result<(), NoMemory>
+pub(crate) fn place_row(rows: &mut Vec<StoredRow>, row: StoredRow) -> Result<(), NoMemory>
     ensures { OnOk result (rows.new.items ≡ placed row rows.old.items) }
 {
     match place_above(rows, &row) {

@@ -11,7 +11,7 @@ use crate::code::SqlCode;
 use crate::datum::{Datum, DatumRows};
 use crate::fault::Fault;
 use crate::page::Page;
-use crate::row::{Hit, Row};
+use crate::row::{Hit, StoredRow};
 use crate::row_lists::change_rows;
 use pgw_frames::NoMemory;
 use pgw_messages::Items;
@@ -72,7 +72,7 @@ impl Rows {
     }
 
     /// Puts a row at its place. After an error the rows are given up.
-    fn add(&mut self, row: Row) -> Result<(), Fault>
+    fn add(&mut self, row: StoredRow) -> Result<(), Fault>
         ensures { Leaves result self.new (added self.old (row ∷ [])) }
     {
         if self.has_key(row.values()) {
@@ -84,7 +84,7 @@ impl Rows {
 
     /// These rows with new ones put among them.
     #[tactic(auto, using(crate::proofs::Adding::added_more, crate::proofs::Adding::added_fails))]
-    pub(crate) fn added(&self, alloc: Global, new: &[Row]) -> Result<Rows, Fault>
+    pub(crate) fn added(&self, alloc: Global, new: &[StoredRow]) -> Result<Rows, Fault>
         ensures { Gives result (added self.now new.now) }
     {
         let mut rows = self.copy(alloc)?;
@@ -161,7 +161,7 @@ impl Rows {
         alloc: Global,
         value: &Datum,
         hit: &Option<Hit>,
-    ) -> Result<Vec<Row>, NoMemory>
+    ) -> Result<Vec<StoredRow>, NoMemory>
         ensures { IfOk result (λ rs. rs.items ≡ map (changed 0 value.now hit.now) self.now) }
     {
         let mut rows = Vec::new(alloc);
@@ -193,7 +193,7 @@ impl Rows {
 
 /// Rows, each put at its place.
 #[tactic(auto, using(crate::proofs::Adding::added_more, crate::proofs::Adding::added_fails))]
-fn in_order(alloc: Global, rows: &[Row]) -> Result<Rows, Fault>
+fn in_order(alloc: Global, rows: &[StoredRow]) -> Result<Rows, Fault>
     ensures { Gives result (added [] rows.now) }
 {
     let mut ordered = Rows::new(alloc);
@@ -221,7 +221,7 @@ fn push_page(pages: &mut Vec<Page>, page: Page) -> Result<(), NoMemory>
     Ok(())
 }
 
-fn page_above(pages: &[Page], row: &Row) -> Option<usize>
+fn page_above(pages: &[Page], row: &StoredRow) -> Option<usize>
     ensures { result ≡ position (has_above row.now) pages.now }
 {
     pages.iter().position(|page| page.has_above(row))
@@ -229,7 +229,7 @@ fn page_above(pages: &[Page], row: &Row) -> Option<usize>
 
 /// The page for a row: the first with one of a greater key, or else the last; none where there are none.
 #[tactic(auto, using(crate::proofs::Paged::first_page, crate::proofs::Paged::last_page))]
-fn page_for(pages: &[Page], row: &Row) -> Option<usize>
+fn page_for(pages: &[Page], row: &StoredRow) -> Option<usize>
     ensures within { IfSome result (λ at. at < length pages.now) }
     ensures is { IfSome result (λ at. placed row.now (joined pages.now) ≡ joined (set pages.now at (placed row.now (get_or pages.now at [])))) }
     ensures none { result ≡ None → pages.now ≡ [] }
@@ -253,7 +253,12 @@ fn halve(pages: &mut Vec<Page>, alloc: Global, at: usize) -> Result<(), NoMemory
 }
 
 /// Puts a row into a page.
-fn place_into(pages: &mut Vec<Page>, alloc: Global, at: usize, row: Row) -> Result<(), NoMemory>
+fn place_into(
+    pages: &mut Vec<Page>,
+    alloc: Global,
+    at: usize,
+    row: StoredRow,
+) -> Result<(), NoMemory>
     requires within { at < length pages.old.items }
     requires new { has_key row (get_or pages.old.items at []) ≡ false }
     ensures { OnOk result (joined pages.new.items ≡ joined (set pages.old.items at (placed row (get_or pages.old.items at [])))) }
@@ -267,7 +272,7 @@ fn place_into(pages: &mut Vec<Page>, alloc: Global, at: usize, row: Row) -> Resu
 
 /// Puts a row before the first one of a greater key.
 #[tactic(auto, using(crate::proofs::Paged::no_key_in, crate::proofs::Keeps::rises_alone))]
-fn place_row(pages: &mut Vec<Page>, row: Row) -> Result<(), NoMemory>
+fn place_row(pages: &mut Vec<Page>, row: StoredRow) -> Result<(), NoMemory>
     requires { has_key row (joined pages.old.items) ≡ false }
     ensures { OnOk result (joined pages.new.items ≡ placed row (joined pages.old.items)) }
 {

@@ -1,3 +1,4 @@
 pub mod Fronts
 pub mod Longest
 pub mod Joined
+pub mod Lending

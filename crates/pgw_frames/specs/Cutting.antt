@@ -1,6 +1,9 @@
 -- What a cutter answers.
-use Rattle.std.specs.Prelude.{◌≡◌, ◌≤◌, ℕ, List, length}
-use Rattle.pgw_frames.specs.Frames.{Front, front, Whole, Partial, Malformed}
+use Rattle.std.specs.Prelude.{◌≡◌, ◌≤◌, ℕ, List, length, Option, Some, None}
+use Rattle.pgw_frames.specs.Frames.{Front, front, Whole, Partial, Malformed, frame_bytes, frame_of, IsGood}
+use Rattle.pgw_frames.specs.declared.frame.Frame.{Frame}
+use Rattle.pgw_frames.specs.declared.cutter.Ahead.{Ahead}
+use Rattle.pgw_frames.specs.declared.cutter.Ahead.TheVariants as ahead
 use Rattle.pgw_frames.specs.declared.cutter.Next.{Next}
 use Rattle.pgw_frames.specs.declared.cutter.Next.TheVariants as next
 
@@ -21,3 +24,17 @@ abbrev pub HasFrame : Front → Type 0
 HasFrame (Whole f more) = Unit {0}
 HasFrame Partial = ⊥
 HasFrame (Malformed n) = ⊥
+
+-- what is lent where these bytes are held: a frame is lent as its bytes, and can be written again
+abbrev pub Shows : Ahead → List ℕ → Type 0
+Shows (ahead.Frame bytes) held =
+    ((more : List ℕ) × (front held ≡ Whole (frame_of bytes.now) more))
+    × (bytes.now ≡ frame_bytes (frame_of bytes.now))
+    × IsGood (frame_of bytes.now)
+Shows ahead.Need held = front held ≡ Partial
+Shows (ahead.BadLength n) held = front held ≡ Malformed n
+
+-- the type of the frame that was dropped where old was held, and what is held afterwards
+abbrev pub Advances : Option ℕ → List ℕ → List ℕ → Type 0
+Advances (Some tag) old new = (f : Frame) × (front old ≡ Whole f new) × (f.tag ≡ tag)
+Advances None old new = (HasFrame (front old) → ⊥) × (new ≡ old)

@@ -9,6 +9,10 @@ use Rattle.pgw_frames.specs.declared.frame.Frame.{Frame}
 abbrev pub frame_bytes : Frame → List ℕ
 frame_bytes f = f.tag ∷ to_be_bytes w32 (length f.body + 4) ++ f.body
 
+-- the frame that these bytes are, where they are one
+abbrev pub frame_of : List ℕ → Frame
+frame_of b = record { tag = get_or b 0 0; body = drop 5 b }
+
 -- the bytes of a list of frames
 abbrev pub render : List Frame → List ℕ
 render fs = flat_map frame_bytes fs

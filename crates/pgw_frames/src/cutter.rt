@@ -2,10 +2,11 @@
 
 ghost use Rattle.std.specs.Prelude.{◌≡◌, ◌≤◌, [], ◌∷◌, ◌++◌, length, drop, OnOk, OnErr, IfOk};
 ghost use Rattle.pgw_frames.specs.Frames.{front};
-ghost use Rattle.pgw_frames.specs.Cutting.{Answers, HasGoodFrame, HasFrame};
+ghost use Rattle.pgw_frames.specs.Cutting.{Answers, Advances, HasGoodFrame, HasFrame, Shows};
 
 use crate::bytes::Bytes;
 use crate::frame::Frame;
+use crate::head::{Head, head_of};
 use crate::memory::NoMemory;
 use crate::queue::ByteQueue;
 use std::alloc::Global;
@@ -16,6 +17,17 @@ use std::marker::Model;
 pub enum Next {
     /// A whole frame, which was taken off.
     Frame(Frame),
+    /// No whole frame yet: some more bytes would make one.
+    Need,
+    /// A length outside 4 to 16,777,220, which begins no frame, now and for good.
+    BadLength(u32),
+}
+
+/// What stands at the front of what is held, lent.
+#[derive(Clone, Copy, Debug)]
+pub enum Ahead<'a> {
+    /// A whole frame, as it stands on the wire: type byte, length and body.
+    Frame(&'a [u8]),
     /// No whole frame yet: some more bytes would make one.
     Need,
     /// A length outside 4 to 16,777,220, which begins no frame, now and for good.
@@ -37,32 +49,32 @@ impl Model for Cutter {
 }
 
 /// What stands at the front of these bytes, and how many bytes it takes.
-#[tactic(auto, unfolding(crate::specs::Frames::front))]
 pub(crate) fn next_of(alloc: Global, bytes: &[u8]) -> Result<(Next, usize), NoMemory>
     ensures answer { IfOk result (λ r. Answers r.0 bytes.now (drop r.1 bytes.now)) }
     ensures good { IfOk result (λ r. HasGoodFrame r.0) }
     ensures count { IfOk result (λ r. r.1 ≤ length bytes.now) }
     ensures no_memory { OnErr result (HasFrame (front bytes.now)) }
 {
-    if bytes.len() < 5 {
-        return Ok((Next::Need, 0));
+    match head_of(bytes) {
+        Head::Whole(count) => {
+            let body = Bytes::of(alloc, &bytes[5..count])?;
+            let tag = bytes[0];
+            Ok((Next::Frame(Frame { tag, body }), count))
+        }
+        Head::Need => Ok((Next::Need, 0)),
+        Head::BadLength(length) => Ok((Next::BadLength(length), 0)),
     }
-    let length = u32::from_be_bytes([bytes[1], bytes[2], bytes[3], bytes[4]]);
-    if length < 4 || length > 16_777_220 {
-        return Ok((Next::BadLength(length), 0));
+}
+
+/// What stands at the front of these bytes.
+fn ahead_of(bytes: &[u8]) -> Ahead<'_>
+    ensures { Shows result bytes.now }
+{
+    match head_of(bytes) {
+        Head::Whole(count) => Ahead::Frame(&bytes[..count]),
+        Head::Need => Ahead::Need,
+        Head::BadLength(length) => Ahead::BadLength(length),
     }
-    let count = length as usize + 1;
-    if bytes.len() < count {
-        return Ok((Next::Need, 0));
-    }
-    let body = Bytes::of(alloc, &bytes[5..count])?;
-    Ok((
-        Next::Frame(Frame {
-            tag: bytes[0],
-            body,
-        }),
-        count,
-    ))
 }
 
 impl Cutter {
@@ -93,6 +105,28 @@ impl Cutter {
     {
         let next = self.held.next_frame()?;
         Ok(next)
+    }
+
+    /// Lends the frame at the front, where a whole one stands there. It takes no memory.
+    pub fn ahead(&self) -> Ahead<'_>
+        ensures { Shows result self.now }
+    {
+        ahead_of(self.held.as_slice())
+    }
+
+    /// Drops the frame at the front, where a whole one stands there, and says its type. It takes no memory.
+    pub fn advance(&mut self) -> Option<u8>
+        ensures { Advances result self.old self.new }
+    {
+        let bytes = self.held.as_slice();
+        match head_of(bytes) {
+            Head::Whole(count) => {
+                let tag = bytes[0];
+                self.held.drop_front(count);
+                Some(tag)
+            }
+            Head::Need | Head::BadLength(_) => None,
+        }
     }
 
     /// How many bytes are held.

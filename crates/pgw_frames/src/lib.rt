@@ -10,6 +10,7 @@
 mod bytes;
 mod cutter;
 mod frame;
+mod head;
 mod laws;
 mod memory;
 mod queue;
@@ -17,7 +18,7 @@ mod stream;
 mod text;
 
 pub use bytes::Bytes;
-pub use cutter::{Cutter, Next};
+pub use cutter::{Ahead, Cutter, Next};
 pub use frame::{Frame, Frames, MOST_BODY, write_frame};
 pub use laws::{bad_length_stays, frames_are_the_longest};
 pub use memory::NoMemory;

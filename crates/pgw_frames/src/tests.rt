@@ -28,6 +28,38 @@ fn lengths_of_the_manual(rt: HostRuntime) -> Result<(), Fail> {
     Ok(())
 }
 
+/// What is lent, told in the same way.
+fn lent(ahead: Ahead<'_>) -> (char, u32) {
+    match ahead {
+        Ahead::Frame(bytes) => {
+            let tag = bytes.first().copied().unwrap_or(0);
+            (
+                tag as char,
+                bytes.len().saturating_sub(5).min(65_535) as u32,
+            )
+        }
+        Ahead::Need => ('-', 0),
+        Ahead::BadLength(n) => ('!', n),
+    }
+}
+
+#[test]
+fn frames_that_are_lent(rt: HostRuntime) -> Result<(), Fail> {
+    let mut c = Cutter::new(rt.alloc());
+    c.feed(b"Q\0\0\0\x061\0S\0\0\0\x04d\0\0\0\x03")?;
+    let rows = [
+        ('Q', 2, Some(81), 10),
+        ('S', 0, Some(83), 5),
+        ('!', 3, None, 5),
+    ];
+    for (tag, n, dropped, left) in rows {
+        assert_eq!(rt; lent(c.ahead()), (tag, n), "at {tag}");
+        assert_eq!(rt; c.advance(), dropped, "at {tag}");
+        assert_eq!(rt; c.held(), left, "at {tag}");
+    }
+    Ok(())
+}
+
 #[test]
 fn a_stream_in_pieces(rt: HostRuntime) -> Result<(), Fail> {
     let alloc = rt.alloc();

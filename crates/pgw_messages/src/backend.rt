@@ -7,6 +7,7 @@ mod fields;
 mod message;
 mod notify;
 mod reading;
+mod row;
 mod status;
 mod writing;
 
@@ -17,4 +18,5 @@ pub use fields::{Field, Fields};
 pub use message::BackMsg;
 pub use notify::NotifyMsg;
 pub use reading::read_back;
+pub use row::row_frame;
 pub use writing::write_back;

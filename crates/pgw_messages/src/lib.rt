@@ -33,7 +33,8 @@ mod view;
 mod writer;
 
 pub use backend::{
-    AuthMsg, BackMsg, Column, Columns, CopyMsg, Field, Fields, NotifyMsg, read_back, write_back,
+    AuthMsg, BackMsg, Column, Columns, CopyMsg, Field, Fields, NotifyMsg, read_back, row_frame,
+    write_back,
 };
 pub use fault::MsgFault;
 pub use frontend::{BindMsg, ExecuteMsg, FrontMsg, ParseMsg, Part, read_front, write_front};

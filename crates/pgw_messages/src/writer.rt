@@ -1,6 +1,6 @@
 //! Writing the fields of a message one after the other.
 
-ghost use Rattle.std.specs.Prelude.{◌≡◌, ◌≤◌, [], ◌∷◌, ◌++◌, length, IfOk, OnOk};
+ghost use Rattle.std.specs.Prelude.{◌≡◌, ◌≤◌, [], ◌∷◌, ◌++◌, length, map, Some, IfOk, OnOk};
 ghost use Rattle.std.specs.Int.{w16, w32, to_be_bytes};
 ghost use Rattle.pgw_messages.specs.Spelling.{text_bytes, signed_bytes, value_bytes, list_bytes, HasNoZero, FitsValue, IsText, IsValue, IsList};
 
@@ -39,6 +39,15 @@ fn count_field(count: usize) -> u16
     ensures { to_be_bytes w16 result ≡ to_be_bytes w16 count }
 {
     (count as u64 & 0xffff) as u16
+}
+
+/// A text and its zero byte, in the text's own memory where that has room.
+pub(crate) fn text_body(text: Text) -> Result<Bytes, NoMemory>
+    ensures { IfOk result (λ b. b ≡ text_bytes text) }
+{
+    let mut body = text.into_string().into_bytes();
+    body.push(0)?;
+    Ok(Bytes::from_vec(body))
 }
 
 impl Writer {
@@ -112,8 +121,26 @@ impl Writer {
         let Some(value) = v else {
             return self.i32(-1);
         };
+        self.some_value(value.as_slice())
+    }
+
+    /// The length of a value that isn't NULL, by its low 32 bits, and the value.
+    fn some_value(&mut self, value: &[u8]) -> Result<(), NoMemory>
+        ensures { OnOk result (self.new ≡ self.old ++ value_bytes (Some value.now)) }
+    {
         self.u32(length_field(value.len()))?;
-        self.bytes(value.as_slice())?;
+        self.bytes(value)?;
+        Ok(())
+    }
+
+    /// The count of values of which none is NULL, by its low 16 bits, and the values.
+    pub(crate) fn values(&mut self, values: &[&[u8]]) -> Result<(), NoMemory>
+        ensures { OnOk result (self.new ≡ self.old ++ list_bytes value_bytes (map (λ v. Some v.now) values.now)) }
+    {
+        self.u16(count_field(values.len()))?;
+        for value in values {
+            self.some_value(value)?;
+        }
         Ok(())
     }
 

@@ -1,6 +1,6 @@
 -- How a stream goes on.
-use Rattle.std.proofs.Common.{◌≡◌, ℕ, ◌+◌, ◌-◌, ◌≤◌, false, List, [], ◌∷◌, ◌++◌, length, take, drop, refl, sym, ap, ◌∙◌, arith, append_assoc}
-use Rattle.std.specs.Prelude.{slice_get, nat_lt, Some, None}
+use Rattle.std.proofs.Common.{◌≡◌, ℕ, ◌+◌, ◌-◌, ◌≤◌, true, false, subst, List, [], ◌∷◌, ◌++◌, length, take, drop, refl, sym, ap, ◌∙◌, arith, append_assoc}
+use Rattle.std.specs.Prelude.{slice_get, nat_lt, Option, Some, None}
 use Rattle.std.proofs.lemmas.Bool.{ltb-false, or_parts}
 use Rattle.std.proofs.lemmas.List.{append-nil, length-append, length-drop, length-take}
 use Rattle.std.proofs.lemmas.Grind.{flat_map-append}
@@ -9,9 +9,11 @@ use Rattle.pgw_frames.specs.declared.frame.Frame.{Frame}
 use Rattle.pgw_frames.specs.declared.cutter.Next.{Next}
 use Rattle.pgw_frames.specs.declared.cutter.Next.TheVariants as next
 use Rattle.pgw_frames.specs.Frames.{Front, front, Whole, Partial, Malformed, frames, rest, bad, render, frame_bytes, length_field}
-use Rattle.pgw_frames.specs.Cutting.{Answers, HasFrame}
+use Rattle.pgw_frames.specs.Cutting.{Answers, Advances, HasFrame}
 use Rattle.pgw_frames.proofs.Fronts.{whole_is, frames-append, rest-append, frames_whole, rest_whole, rest_partial, rest_bad, frames_none}
-use Rattle.processor_core.specs.Streams.{Cuts, StepOf, HasMessage, handed_by, step_of_next, next_message}
+use Rattle.processor_core.specs.declared.step.Step.{Step}
+use Rattle.processor_core.specs.declared.step.Step.TheVariants as step
+use Rattle.processor_core.specs.Streams.{Cuts, StepOf, HasMessage, handed_by, tag_of, step_of_next, next_message}
 
 pub cuts-append : (handed : List Frame) (held fed x : List ℕ) → Cuts handed held fed → Cuts handed (held ++ x) (fed ++ x)
 cuts-append handed held fed x h = record {
@@ -76,3 +78,33 @@ message_is handed held fed some h = by (front held) refl some
     by (Whole f more) e s = (refl, (f, next_is handed held fed f more h e))
     by Partial e s = absurd s
     by (Malformed n) e s = absurd s
+
+-- ---- a message is dropped
+
+same_frame : (m : Option Frame) (f g : Frame) → m ≡ Some f → m ≡ Some g → f ≡ g
+same_frame m f g p q = cc
+
+not_both : (m : Option Frame) (f : Frame) → m ≡ Some f → m ≡ None → ⊥
+not_both m f p q = cc
+
+not_stopped : false ≡ true → ⊥
+not_stopped e = cc
+
+abbrev Dropped : Step → Option ℕ → List Frame → List ℕ → List ℕ → Type 0
+Dropped s tag handed left fed = Cuts (handed_by s handed) left fed × (tag ≡ tag_of s)
+
+pub advance_is : (tag : Option ℕ) (s : Step) (handed : List Frame) (held left fed : List ℕ) → Advances tag held left → Cuts handed held fed → StepOf s fed handed false → Dropped s tag handed left fed
+advance_is (Some t) (step.Frame g) handed held left fed a h e =
+    let same = same_frame (next_message fed handed) a.0 g (next_is handed held fed a.0 left h a.1) e.1 in (
+      subst (λ f. Cuts (handed ++ f ∷ []) left fed) same (cuts_next (next.Frame a.0) handed held left fed a.1 h),
+      ap Some (sym a.2 ∙ ap (λ (f : Frame). f.tag) same),
+    )
+advance_is (Some t) step.Need handed held left fed a h e = absurd (not_both _ a.0 (next_is handed held fed a.0 left h a.1) e.1)
+advance_is (Some t) (step.Bad n) handed held left fed a h e = absurd (not_both _ a.0 (next_is handed held fed a.0 left h a.1) e.1)
+advance_is (Some t) step.Stopped handed held left fed a h e = absurd (not_stopped e)
+advance_is None (step.Frame g) handed held left fed a h e =
+    let none : frames held ≡ [] = frames_none held (λ f more w. a.0 (subst HasFrame (sym w) tt)) in
+    absurd (not_both _ g e.1 (none_is handed held fed h none))
+advance_is None step.Need handed held left fed a h e = (rw a.1 h, refl)
+advance_is None (step.Bad n) handed held left fed a h e = (rw a.1 h, refl)
+advance_is None step.Stopped handed held left fed a h e = absurd (not_stopped e)

@@ -3,9 +3,11 @@ use Rattle.std.specs.Prelude.{◌≡◌, ◌+◌, ℕ, Bool, true, false, List, 
 use Rattle.pgw_frames.specs.declared.frame.Frame.{Frame}
 use Rattle.pgw_frames.specs.declared.cutter.Next.{Next}
 use Rattle.pgw_frames.specs.declared.cutter.Next.TheVariants as next
-use Rattle.pgw_frames.specs.Frames.{frames, rest, bad, render, IsGood}
+use Rattle.pgw_frames.specs.Frames.{frames, rest, bad, render, frame_bytes, frame_of, IsGood}
 use Rattle.processor_core.specs.declared.step.Step.{Step}
 use Rattle.processor_core.specs.declared.step.Step.TheVariants as step
+use Rattle.processor_core.specs.declared.step.Peek.{Peek}
+use Rattle.processor_core.specs.declared.step.Peek.TheVariants as peek
 use Rattle.processor_core.specs.declared.stream.Stream.{Stream}
 
 -- of what was fed these messages were handed out, and these bytes are held
@@ -55,3 +57,35 @@ abbrev pub step_of_next : Next → Step
 step_of_next (next.Frame f) = step.Frame f
 step_of_next next.Need = step.Need
 step_of_next (next.BadLength n) = step.Bad n
+
+-- what is lent, as it would be handed out
+abbrev pub step_of_peek : Peek → Step
+step_of_peek (peek.Frame bytes) = step.Frame (frame_of bytes.now)
+step_of_peek peek.Need = step.Need
+step_of_peek (peek.Bad n) = step.Bad n
+step_of_peek peek.Stopped = step.Stopped
+
+-- a message is lent as its bytes, and can be written again
+abbrev pub LendsGood : Peek → Type 0
+LendsGood (peek.Frame bytes) = (bytes.now ≡ frame_bytes (frame_of bytes.now)) × IsGood (frame_of bytes.now)
+LendsGood peek.Need = Unit {0}
+LendsGood (peek.Bad n) = Unit {0}
+LendsGood peek.Stopped = Unit {0}
+
+-- what is next was handed out besides, where something is
+abbrev pub HandsOn : (List ℕ → List Frame → Bool → Type 0) → (List ℕ → List Frame → Bool → Type 0) → Type 0
+HandsOn old new = (fed : List ℕ) (handed : List Frame) (suspended : Bool) (s : Step) → old fed handed suspended → StepOf s fed handed suspended → new fed (handed_by s handed) suspended
+
+-- the type of a message that is handed out
+abbrev pub tag_of : Step → Option ℕ
+tag_of (step.Frame f) = Some f.tag
+tag_of step.Need = None
+tag_of (step.Bad n) = None
+tag_of step.Stopped = None
+
+abbrev pub TellsTag : (List ℕ → List Frame → Bool → Type 0) → Option ℕ → Type 0
+TellsTag old tag = (fed : List ℕ) (handed : List Frame) (suspended : Bool) (s : Step) → old fed handed suspended → StepOf s fed handed suspended → tag ≡ tag_of s
+
+-- what was known of the messages is known with the one of this type besides
+abbrev pub CountsOn : Option ℕ → (List Frame → Type 0) → (List Frame → Type 0) → Type 0
+CountsOn tag old new = (handed : List Frame) (s : Step) → tag ≡ tag_of s → old handed → new (handed_by s handed)

@@ -5,7 +5,7 @@ use Rattle.pgw_frames.specs.Frames.{render}
 use Rattle.session_model.specs.Tags.{asks_in, readies_in, last_tag, plain}
 use Rattle.processor_core.specs.declared.tally.RequestTally.{RequestTally}
 use Rattle.processor_core.specs.declared.tally.ResponseTally.{ResponseTally}
-use Rattle.processor_core.specs.declared.tally.Replies.{Replies}
+use Rattle.processor_core.specs.declared.tally.ReplyCounts.{ReplyCounts}
 
 -- counts stop at the greatest number that they hold
 abbrev pub counted : ℕ → ℕ
@@ -19,6 +19,6 @@ request_tally fs = record { qs = counted (asks_in fs); last = last_tag 0 fs; las
 abbrev pub response_tally : List ℕ → List Frame → ResponseTally
 response_tally fed fs = record { zs = counted (readies_in fs); last = last_tag 0 fs; empty = length fed == length (render fs) }
 
-pub record RepliesAre (r : Replies) (fs : List Frame) : Type 0 where
+pub record RepliesAre (r : ReplyCounts) (fs : List Frame) : Type 0 where
   pub zs_is : r.zs ≡ counted (readies_in fs)
   pub last_is : r.last ≡ last_tag 0 fs

@@ -1,6 +1,7 @@
 //! A connection's two directions, each as a stream that is cut into messages and counted.
 //!
-//! Bytes are fed in whatever pieces, and messages are handed out. A processor may be suspended: it then
+//! Bytes are fed in whatever pieces, and messages are handed out: each as a value of its own, or lent first and
+//! then dropped, which takes no memory. A processor may be suspended: it then
 //! hands nothing out, and loses nothing. What was handed out is counted over the whole session, through
 //! all its moves; from these counts follows whether the session may be moved. The texts of a move pass
 //! no processor.
@@ -16,7 +17,7 @@ mod tally;
 
 pub use request::Request;
 pub use response::Response;
-pub use step::Step;
+pub use step::{Peek, Step};
 pub use tally::{RequestTally, ResponseTally};
 
 #[cfg(test)]

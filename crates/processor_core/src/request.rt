@@ -3,11 +3,11 @@
 ghost use Rattle.std.specs.Prelude.{◌≡◌, ◌==◌, ℕ, Bool, true, false, List, [], ◌++◌, length, IfOk, OnOk, OnErr};
 ghost use Rattle.pgw_frames.specs.Frames.{render};
 ghost use Rattle.pgw_frames.specs.declared.frame.Frame.{Frame as Message};
-ghost use Rattle.processor_core.specs.Streams.{StepOf, HasMessage, HasGoodFrame, handed_by};
+ghost use Rattle.processor_core.specs.Streams.{StepOf, HasMessage, HasGoodFrame, handed_by, step_of_peek, LendsGood, HandsOn};
 ghost use Rattle.processor_core.specs.Tallies.{request_tally};
 ghost use Rattle.processor_core.specs.Stands.{RequestStands, RequestKeeps};
 
-use crate::step::Step;
+use crate::step::{Peek, Step};
 use crate::stream::Stream;
 use crate::tally::RequestTally;
 use pgw_frames::NoMemory;
@@ -54,7 +54,24 @@ impl Request {
         Ok(step)
     }
 
-    /// From now on `next` answers Stopped.
+    /// Lends the next message, which is neither handed out nor counted yet. It takes no memory.
+    pub fn peek(&self) -> Peek<'_>
+        ensures step { (fed : List ℕ) (handed : List Message) (suspended : Bool) → RequestStands self.now fed handed suspended → StepOf (step_of_peek result) fed handed suspended }
+        ensures good { LendsGood result }
+    {
+        self.stream.peek()
+    }
+
+    /// Hands out and counts the message that `peek` lends, by dropping it; where it lends none, nothing
+    /// changes. It takes no memory.
+    pub fn advance(&mut self)
+        ensures { HandsOn (RequestStands self.old) (RequestStands self.new) }
+    {
+        let tag = self.stream.advance();
+        self.tally.count_next(tag);
+    }
+
+    /// From now on `next` and `peek` answer Stopped.
     pub fn suspend(&mut self)
         ensures { (fed : List ℕ) (handed : List Message) (suspended : Bool) → RequestStands self.old fed handed suspended → RequestStands self.new fed handed true }
     {

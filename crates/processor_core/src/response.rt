@@ -2,13 +2,13 @@
 
 ghost use Rattle.std.specs.Prelude.{◌≡◌, ℕ, Bool, true, false, List, [], ◌++◌, IfOk, OnOk, OnErr};
 ghost use Rattle.pgw_frames.specs.declared.frame.Frame.{Frame as Message};
-ghost use Rattle.processor_core.specs.Streams.{StepOf, HasMessage, HasGoodFrame, handed_by};
+ghost use Rattle.processor_core.specs.Streams.{StepOf, HasMessage, HasGoodFrame, handed_by, step_of_peek, LendsGood, HandsOn};
 ghost use Rattle.processor_core.specs.Tallies.{response_tally};
 ghost use Rattle.processor_core.specs.Stands.{ResponseStands, ResponseKeeps};
 
-use crate::step::Step;
+use crate::step::{Peek, Step};
 use crate::stream::Stream;
-use crate::tally::{Replies, ResponseTally};
+use crate::tally::{ReplyCounts, ResponseTally};
 use pgw_frames::{Cutter, NoMemory};
 use std::alloc::Global;
 
@@ -17,7 +17,7 @@ use std::alloc::Global;
 #[derive(Debug, Drop)]
 pub struct Response {
     stream: Stream,
-    replies: Replies,
+    replies: ReplyCounts,
 }
 
 impl Response {
@@ -27,7 +27,7 @@ impl Response {
     {
         Response {
             stream: Stream::new(alloc),
-            replies: Replies::new(),
+            replies: ReplyCounts::new(),
         }
     }
 
@@ -38,7 +38,7 @@ impl Response {
     {
         Response {
             stream: Stream::behind(greeting),
-            replies: Replies::new(),
+            replies: ReplyCounts::new(),
         }
     }
 
@@ -64,7 +64,24 @@ impl Response {
         Ok(step)
     }
 
-    /// From now on `next` answers Stopped.
+    /// Lends the next message, which is neither handed out nor counted yet. It takes no memory.
+    pub fn peek(&self) -> Peek<'_>
+        ensures step { (fed : List ℕ) (handed : List Message) (suspended : Bool) → ResponseStands self.now fed handed suspended → StepOf (step_of_peek result) fed handed suspended }
+        ensures good { LendsGood result }
+    {
+        self.stream.peek()
+    }
+
+    /// Hands out and counts the message that `peek` lends, by dropping it; where it lends none, nothing
+    /// changes. It takes no memory.
+    pub fn advance(&mut self)
+        ensures { HandsOn (ResponseStands self.old) (ResponseStands self.new) }
+    {
+        let tag = self.stream.advance();
+        self.replies.count_next(tag);
+    }
+
+    /// From now on `next` and `peek` answer Stopped.
     pub fn suspend(&mut self)
         ensures { (fed : List ℕ) (handed : List Message) (suspended : Bool) → ResponseStands self.old fed handed suspended → ResponseStands self.new fed handed true }
     {

@@ -28,3 +28,16 @@ pub(crate) fn step_of(next: Next) -> Step
         Next::BadLength(n) => Step::Bad(n),
     }
 }
+
+/// What is next of a stream, lent: it isn't handed out yet.
+#[derive(Clone, Copy, Debug)]
+pub enum Peek<'a> {
+    /// The next message, as it stands on the wire: type byte, length and body.
+    Frame(&'a [u8]),
+    /// No whole message yet: some more bytes would make one.
+    Need,
+    /// A length outside 4 to 16,777,220, which begins no message, now and for good.
+    Bad(u32),
+    /// The processor is suspended.
+    Stopped,
+}

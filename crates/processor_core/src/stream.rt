@@ -3,10 +3,10 @@
 ghost use Rattle.std.specs.Prelude.{◌≡◌, ◌==◌, ℕ, Bool, true, false, List, [], ◌++◌, length, IfOk, OnOk, OnErr};
 ghost use Rattle.pgw_frames.specs.Frames.{render};
 ghost use Rattle.pgw_frames.specs.declared.frame.Frame.{Frame as Message};
-ghost use Rattle.processor_core.specs.Streams.{StreamStands, StreamKeeps, StepOf, HasMessage, HasGoodFrame, handed_by};
+ghost use Rattle.processor_core.specs.Streams.{StreamStands, StreamKeeps, StepOf, HasMessage, HasGoodFrame, handed_by, step_of_peek, LendsGood, HandsOn, TellsTag};
 
-use crate::step::{Step, step_of};
-use pgw_frames::{Cutter, NoMemory};
+use crate::step::{Peek, Step, step_of};
+use pgw_frames::{Ahead, Cutter, NoMemory};
 use std::alloc::Global;
 
 /// A stream, and whether it is suspended.
@@ -59,6 +59,32 @@ impl Stream {
         }
         let next = self.cutter.next()?;
         Ok(step_of(next))
+    }
+
+    /// Lends what is next.
+    pub fn peek(&self) -> Peek<'_>
+        ensures step { (fed : List ℕ) (handed : List Message) (suspended : Bool) → StreamStands self.now fed handed suspended → StepOf (step_of_peek result) fed handed suspended }
+        ensures good { LendsGood result }
+    {
+        if self.suspended {
+            return Peek::Stopped;
+        }
+        match self.cutter.ahead() {
+            Ahead::Frame(bytes) => Peek::Frame(bytes),
+            Ahead::Need => Peek::Need,
+            Ahead::BadLength(n) => Peek::Bad(n),
+        }
+    }
+
+    /// Hands out what is next by dropping it, and says its type.
+    pub fn advance(&mut self) -> Option<u8>
+        ensures state { HandsOn (StreamStands self.old) (StreamStands self.new) }
+        ensures tag { TellsTag (StreamStands self.old) result }
+    {
+        if self.suspended {
+            return None;
+        }
+        self.cutter.advance()
     }
 
     /// From now on nothing is handed out.

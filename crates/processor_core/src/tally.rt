@@ -3,7 +3,7 @@
 ghost use Rattle.std.specs.Prelude.{◌≡◌, ◌+◌, ◌-◌, ◌^◌, min, if◌then◌else◌, List, [], ◌∷◌, ◌++◌};
 ghost use Rattle.pgw_frames.specs.declared.frame.Frame.{Frame as Message};
 ghost use Rattle.session_model.specs.Tags.{is_ask, is_copy, one};
-ghost use Rattle.processor_core.specs.Streams.{handed_by};
+ghost use Rattle.processor_core.specs.Streams.{handed_by, CountsOn};
 ghost use Rattle.processor_core.specs.Tallies.{request_tally, RepliesAre};
 
 use crate::step::Step;
@@ -35,7 +35,7 @@ pub struct ResponseTally {
 
 /// What is counted of a pod's messages as they go by.
 #[derive(Debug, Drop)]
-pub(crate) struct Replies {
+pub(crate) struct ReplyCounts {
     pub zs: u64,
     pub last: u8,
 }
@@ -96,6 +96,16 @@ impl RequestTally {
         self.last_plain = last_plain(self.last_plain, tag);
     }
 
+    /// Of the message of this type, where one was handed out.
+    pub(crate) fn count_next(&mut self, tag: Option<u8>)
+        ensures { CountsOn tag (λ handed. self.old ≡ request_tally handed) (λ handed. self.new ≡ request_tally handed) }
+    {
+        match tag {
+            Some(tag) => self.count(tag),
+            None => {}
+        }
+    }
+
     /// Of what was handed out besides.
     pub(crate) fn count_step(&mut self, step: &Step)
         ensures { (handed : List Message) → self.old ≡ request_tally handed → self.new ≡ request_tally (handed_by step.now handed) }
@@ -107,12 +117,12 @@ impl RequestTally {
     }
 }
 
-impl Replies {
+impl ReplyCounts {
     /// Of no message.
-    pub fn new() -> Replies
+    pub fn new() -> ReplyCounts
         ensures { RepliesAre result [] }
     {
-        Replies { zs: 0, last: 0 }
+        ReplyCounts { zs: 0, last: 0 }
     }
 
     /// Of one message more, of this type.
@@ -121,6 +131,16 @@ impl Replies {
     {
         self.zs = counted(self.zs, tag == tags::READY_FOR_QUERY);
         self.last = tag;
+    }
+
+    /// Of the message of this type, where one was handed out.
+    pub fn count_next(&mut self, tag: Option<u8>)
+        ensures { CountsOn tag (RepliesAre self.old) (RepliesAre self.new) }
+    {
+        match tag {
+            Some(tag) => self.count(tag),
+            None => {}
+        }
     }
 
     /// Of what was handed out besides.

@@ -12,6 +12,41 @@ fn told(step: &Step) -> (&str, u32) {
     }
 }
 
+/// What is lent, told in the same way.
+fn lent(peek: Peek<'_>) -> (&'static str, u32) {
+    match peek {
+        Peek::Frame(bytes) => ("frame", bytes.first().copied().unwrap_or(0) as u32),
+        Peek::Need => ("need", 0),
+        Peek::Bad(n) => ("bad", n),
+        Peek::Stopped => ("stopped", 0),
+    }
+}
+
+#[test]
+fn messages_that_are_lent(rt: HostRuntime) -> Result<(), NoMemory> {
+    let mut request = Request::new(rt.alloc());
+    let mut response = Response::new(rt.alloc());
+    request.feed(b"Q\0\0\0\x061\0S\0\0\0\x04X\0\0\0\x03")?;
+    response.feed(b"Z\0\0\0\x05IZ\0\0\0\x05I")?;
+    let rows = [
+        (("frame", 81), 1, ("frame", 90), 1),
+        (("frame", 83), 2, ("frame", 90), 2),
+        (("bad", 3), 2, ("need", 0), 2),
+    ];
+    for (ask, qs, reply, zs) in rows {
+        request.suspend();
+        assert_eq!(rt; lent(request.peek()), ("stopped", 0));
+        request.advance();
+        request.resume();
+        assert_eq!(rt; lent(request.peek()), ask);
+        assert_eq!(rt; lent(response.peek()), reply);
+        request.advance();
+        response.advance();
+        assert_eq!(rt; (request.tally().qs, response.tally().zs), (qs, zs));
+    }
+    Ok(())
+}
+
 #[test]
 fn a_client_in_pieces(rt: HostRuntime) -> Result<(), NoMemory> {
     let mut request = Request::new(rt.alloc());

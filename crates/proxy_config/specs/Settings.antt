@@ -14,7 +14,7 @@ use Rattle.access_lists.specs.declared.lists.Allow.{Allow as Entry}
 use Rattle.tenant_directory.specs.declared.pod.Pod.{Pod}
 use Rattle.tenant_directory.specs.declared.pod.PodState.{PodState}
 use Rattle.tenant_directory.specs.declared.pod.PodState.TheVariants.{Running, Draining}
-use Rattle.tenant_directory.specs.Rows.{Row}
+use Rattle.tenant_directory.specs.Rows.{TenantPods}
 use Rattle.proxy_config.specs.declared.settings.Spot.{Spot}
 use Rattle.proxy_config.specs.declared.settings.Allow.{Allow}
 use Rattle.proxy_config.specs.declared.settings.Settings.{Settings}
@@ -127,7 +127,7 @@ pods_of key (Some ds) = if nat_lt 1000 (count ds) then Err (OutOfRange key) else
 abbrev pub pods : Part → Reading (List Pod)
 pods p = items (codes "pod") p >>= pods_of (key_of p (codes "pod"))
 
-abbrev pub row_of : List Row → Part → Reading Row
+abbrev pub row_of : List TenantPods → Part → Reading TenantPods
 row_of before table = do
   p ← known tenant_keys table
   n ← number 1 most_number (codes "id") p
@@ -136,7 +136,7 @@ row_of before table = do
   pods ← pods p
   Ok (record { tenant = record { 0 = tenant }; version = version; pods = pods })
 
-abbrev pub row_at : List Row → List ℕ → Data → Reading Row
+abbrev pub row_at : List TenantPods → List ℕ → Data → Reading TenantPods
 row_at before key d = part_at key d >>= row_of before
 
 -- ---- all

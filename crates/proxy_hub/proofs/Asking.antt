@@ -2,7 +2,7 @@
 use Rattle.std.proofs.Common.{◌≡◌, List, [], ◌∷◌, ◌++◌, ℕ, sym, ap, ◌∙◌, subst, map}
 use Rattle.std.proofs.lemmas.List.{map-append}
 use Rattle.counted_desk.specs.declared.answer.Receipt.{Receipt}
-use Rattle.counted_desk.specs.History.{entry, Replies as AreReplies, AreAt as AreAtPlaces, AreAnsweredIn}
+use Rattle.counted_desk.specs.History.{entry, AreReplies, AreAt as AreAtPlaces, AreAnsweredIn}
 use Rattle.counted_desk.specs.Calls.{Made}
 use Rattle.counted_desk.specs.Seats.{Sight}
 use Rattle.proxy_hub.specs.declared.command.HubCommand.{HubCommand}

@@ -2,7 +2,7 @@
 use Rattle.std.specs.Prelude.{◌≡◌, ◌≤◌, Some}
 use Rattle.std.specs.List.{AllByRecursion}
 use Rattle.std.specs.FinMap as map
-use Rattle.login_throttle.specs.Rows.{StandsFor as ThrottleStands}
+use Rattle.login_throttle.specs.Streaks.{StandsFor as ThrottleStands}
 use Rattle.tenant_directory.specs.Standing.{StandsFor as DirectoryStands}
 use Rattle.tenant_directory.specs.declared.directory.Home.{Home}
 use Rattle.proxy_outside.specs.declared.identity.SessionNo.{SessionNo}
@@ -31,8 +31,8 @@ abbrev pub Keeps : Hub → Hub → Type 0
 Keeps old new = (s : State) → StandsFor old s → StandsFor new s
 
 -- the reply to a command, and the state behind it
-abbrev pub Replies : Hub → HubCommand → HubReply → Type 0
-Replies h c r = (s : State) → StandsFor h s → r ≡ reply s c
+abbrev pub GivesReply : Hub → HubCommand → HubReply → Type 0
+GivesReply h c r = (s : State) → StandsFor h s → r ≡ reply s c
 
 abbrev pub Goes : Hub → Hub → HubCommand → Type 0
 Goes old new c = (s : State) → StandsFor old s → StandsFor new (next s c)

@@ -3,7 +3,7 @@ use Rattle.std.specs.Prelude.{◌==◌, ℕ, Bool, List, [], filter, find, map, 
 use Rattle.std.specs.FinMap as map
 use Rattle.access_lists.specs.Verdicts.{Entries}
 use Rattle.login_throttle.specs.Reports.{Report}
-use Rattle.tenant_directory.specs.Rows.{Row}
+use Rattle.tenant_directory.specs.Rows.{TenantPods}
 use Rattle.tenant_directory.specs.declared.directory.Home.{Home}
 use Rattle.cancel_keys.specs.declared.given.Given.{Given}
 use Rattle.session_roster.specs.Rosters.{Live}
@@ -22,7 +22,7 @@ pub record Member : Type 0 where
 pub record State : Type 0 where
   pub lists : Entries
   pub reports : List Report
-  pub rows : List Row
+  pub rows : List TenantPods
   pub members : List Member
   pub homes : map.FinMap sessions Home
   pub keys : map.FinMap sessions Given

@@ -4,7 +4,7 @@ ghost use Rattle.std.specs.Prelude.{◌≡◌, None, IfOk, OnOk, OnErr};
 ghost use Rattle.proxy_hub.specs.States.{State};
 ghost use Rattle.proxy_hub.specs.Steps.{is_running, runs, by_pods, refusal_by};
 ghost use Rattle.tenant_directory.specs.Newest.{pods_of};
-ghost use Rattle.proxy_hub.specs.Hubs.{StandsFor, Keeps, Replies, Goes};
+ghost use Rattle.proxy_hub.specs.Hubs.{StandsFor, Keeps, GivesReply, Goes};
 ghost use Rattle.proxy_hub.specs.declared.command.HubCommand.TheVariants as command;
 
 use crate::hub::Hub;
@@ -68,7 +68,7 @@ impl Hub {
         tenant: TenantId,
         now: u64,
     ) -> Result<HubReply, NoMemory>
-        ensures reply { IfOk result (Replies self.old (command.Admit addr.now tenant now)) }
+        ensures reply { IfOk result (GivesReply self.old (command.Admit addr.now tenant now)) }
         ensures state { OnOk result (Goes self.old self.new (command.Admit addr.now tenant now)) }
         ensures err { OnErr result (Keeps self.old self.new) }
     {

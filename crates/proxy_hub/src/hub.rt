@@ -1,7 +1,7 @@
 //! The hub.
 
 ghost use Rattle.std.specs.Prelude.{◌≡◌, IfOk, OnOk, OnErr};
-ghost use Rattle.proxy_hub.specs.Hubs.{StandsFor, Keeps, Replies, Goes};
+ghost use Rattle.proxy_hub.specs.Hubs.{StandsFor, Keeps, GivesReply, Goes};
 ghost use Rattle.proxy_hub.specs.declared.command.HubCommand.{HubCommand as Command};
 ghost use Rattle.proxy_hub.specs.declared.command.HubCommand.TheVariants as command;
 
@@ -30,7 +30,7 @@ pub struct Hub {
 impl Hub {
     /// These lists count from now on.
     pub(crate) fn set_lists(&mut self, lists: &Lists) -> Result<HubReply, NoMemory>
-        ensures reply { IfOk result (Replies self.old (command.SetLists lists.now)) }
+        ensures reply { IfOk result (GivesReply self.old (command.SetLists lists.now)) }
         ensures state { OnOk result (Goes self.old self.new (command.SetLists lists.now)) }
         ensures err { OnErr result (Keeps self.old self.new) }
     {
@@ -40,7 +40,7 @@ impl Hub {
 
     /// Takes a tenant's row in, unless it is stale.
     pub(crate) fn update(&mut self, row: &TenantRow) -> Result<HubReply, NoMemory>
-        ensures reply { IfOk result (Replies self.old (command.Update row.now)) }
+        ensures reply { IfOk result (GivesReply self.old (command.Update row.now)) }
         ensures state { OnOk result (Goes self.old self.new (command.Update row.now)) }
         ensures err { OnErr result (Keeps self.old self.new) }
     {
@@ -58,7 +58,7 @@ impl Hub {
         ok: bool,
         now: u64,
     ) -> Result<HubReply, NoMemory>
-        ensures reply { IfOk result (Replies self.old (command.Report addr.now tenant ok now)) }
+        ensures reply { IfOk result (GivesReply self.old (command.Report addr.now tenant ok now)) }
         ensures state { OnOk result (Goes self.old self.new (command.Report addr.now tenant ok now)) }
         ensures err { OnErr result (Keeps self.old self.new) }
     {

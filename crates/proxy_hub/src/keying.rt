@@ -1,7 +1,7 @@
 //! Keys of sessions, and their ends.
 
 ghost use Rattle.std.specs.Prelude.{◌≡◌, IfOk, OnOk, OnErr};
-ghost use Rattle.proxy_hub.specs.Hubs.{StandsFor, Keeps, Replies, Goes};
+ghost use Rattle.proxy_hub.specs.Hubs.{StandsFor, Keeps, GivesReply, Goes};
 ghost use Rattle.proxy_hub.specs.declared.command.HubCommand.TheVariants as command;
 
 use crate::hub::Hub;
@@ -18,7 +18,7 @@ impl Hub {
         addr: Addr,
         word: u64,
     ) -> Result<HubReply, NoMemory>
-        ensures reply { IfOk result (Replies self.old (command.GiveKey session addr word)) }
+        ensures reply { IfOk result (GivesReply self.old (command.GiveKey session addr word)) }
         ensures state { OnOk result (Goes self.old self.new (command.GiveKey session addr word)) }
         ensures err { OnErr result (Keeps self.old self.new) }
     {
@@ -31,7 +31,7 @@ impl Hub {
 
     /// Lets a session's key stand for its pod's key.
     pub(crate) fn bind(&mut self, session: SessionNo, key: PodKey) -> HubReply
-        ensures reply { Replies self.old (command.Bind session key) result }
+        ensures reply { GivesReply self.old (command.Bind session key) result }
         ensures state { Goes self.old self.new (command.Bind session key) }
     {
         // Only a live session has a home.
@@ -47,7 +47,7 @@ impl Hub {
 
     /// What a key stands for.
     pub(crate) fn find(&self, key: ClientKey, addr: &Addr) -> HubReply
-        ensures { Replies self.now (command.Find key addr.now) result }
+        ensures { GivesReply self.now (command.Find key addr.now) result }
     {
         match self.keys.find(key, addr) {
             Some((place, key)) => HubReply::Found(place, key),
@@ -57,7 +57,7 @@ impl Hub {
 
     /// A session has ended.
     pub(crate) fn release(&mut self, session: SessionNo) -> HubReply
-        ensures reply { Replies self.old (command.Release session) result }
+        ensures reply { GivesReply self.old (command.Release session) result }
         ensures state { Goes self.old self.new (command.Release session) }
     {
         if self.roster.tenant(session).is_none() {

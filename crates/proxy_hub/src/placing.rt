@@ -5,7 +5,7 @@ ghost use Rattle.std.specs.FinMap as table;
 ghost use Rattle.proxy_hub.specs.States.{State};
 ghost use Rattle.proxy_hub.specs.Steps.{is_tried, untried, is_of, place_of, placed, picked, heading, plan_for};
 ghost use Rattle.proxy_hub.specs.Loads.{load_in, put_back};
-ghost use Rattle.proxy_hub.specs.Hubs.{StandsFor, Keeps, Replies, Goes};
+ghost use Rattle.proxy_hub.specs.Hubs.{StandsFor, Keeps, GivesReply, Goes};
 ghost use Rattle.proxy_hub.specs.declared.command.HubCommand.TheVariants as command;
 
 use crate::admission::is_running;
@@ -127,7 +127,7 @@ impl Hub {
         first: Option<PodNo>,
         second: Option<PodNo>,
     ) -> Result<HubReply, NoMemory>
-        ensures { IfOk result (Replies self.now (command.Pick tenant first second)) }
+        ensures { IfOk result (GivesReply self.now (command.Pick tenant first second)) }
     {
         let Some(pods) = self.directory.pods(tenant) else {
             return Ok(HubReply::No(Refusal::NoTenant));
@@ -139,7 +139,7 @@ impl Hub {
 
     /// The session stands at this place now.
     pub(crate) fn assign(&mut self, session: SessionNo, place: Place) -> Result<HubReply, NoMemory>
-        ensures reply { IfOk result (Replies self.old (command.Assign session place)) }
+        ensures reply { IfOk result (GivesReply self.old (command.Assign session place)) }
         ensures state { OnOk result (Goes self.old self.new (command.Assign session place)) }
         ensures err { OnErr result (Keeps self.old self.new) }
     {
@@ -184,14 +184,14 @@ impl Hub {
     }
 
     pub(crate) fn plan(&self, tenant: TenantId) -> Result<HubReply, NoMemory>
-        ensures { IfOk result (Replies self.now (command.Plan tenant)) }
+        ensures { IfOk result (GivesReply self.now (command.Plan tenant)) }
     {
         Ok(HubReply::Moves(self.plan_of(tenant)?))
     }
 
     /// Where a session is to move.
     pub(crate) fn target(&self, session: SessionNo) -> Result<HubReply, NoMemory>
-        ensures { IfOk result (Replies self.now (command.Target session)) }
+        ensures { IfOk result (GivesReply self.now (command.Target session)) }
     {
         let Some(tenant) = self.roster.tenant(session) else {
             return Ok(HubReply::NoSession);

@@ -1,4 +1,3 @@
 pub mod KeyBytes
 pub mod Reaching
-pub mod Rows
 pub mod Sizes

@@ -3,8 +3,8 @@
 ghost use Rattle.std.specs.Prelude.{◌≡◌, map, IfOk};
 ghost use Rattle.session_model.specs.Texts as text;
 
-use pgw_frames::{Bytes, Frame, NoMemory, Text};
-use pgw_messages::{BackMsg, Column, Items};
+use pgw_frames::{Frame, NoMemory, Text};
+use pgw_messages::{BackMsg, Column, row_frame};
 use std::alloc::Global;
 
 /// A type's number and its size in bytes, as RowDescription has them. The size is negative where
@@ -44,11 +44,7 @@ pub(crate) fn column(alloc: Global, name: &str, of: ColumnType) -> Result<Column
 pub(crate) fn row(alloc: Global, values: &[&[u8]]) -> Result<Frame, NoMemory>
     ensures { IfOk result (λ f. f ≡ text.row (map (λ v. v.now) values.now)) }
 {
-    let mut row = Vec::with_capacity(alloc, values.len())?;
-    for v in values {
-        row.push(Some(Bytes::of(alloc, v)?))?;
-    }
-    BackMsg::Row(Items::from_vec(row)).into_frame(alloc)
+    row_frame(alloc, values)
 }
 
 /// A CommandComplete with this tag.

@@ -1,5 +1,5 @@
 pub mod PacketLemmas
-pub mod OpeningLemmas
+pub mod EntranceLemmas
 pub mod TenantLemmas
 pub mod ClusterLemmas
 pub mod LastDash

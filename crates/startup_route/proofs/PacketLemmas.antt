@@ -13,7 +13,7 @@ use Rattle.startup_route.specs.declared.step.DoorStep.{DoorStep}
 use Rattle.startup_route.specs.declared.step.DoorStep.TheVariants as step
 use Rattle.startup_route.specs.Routes.{route_of}
 use Rattle.startup_route.specs.Packets.{word_at, kind_of, encryption_step, cancel_step, opened, startup_step, step_by, step_with, step_of, missing}
-use Rattle.startup_route.specs.Openings.{is_need}
+use Rattle.startup_route.specs.Entrances.{is_need}
 
 -- ---- bytes that are there stay as they are
 

@@ -2,11 +2,11 @@
 use Rattle.std.specs.Prelude.{◌≡◌, ℕ, Bool, true, false, not, List}
 use Rattle.startup_route.specs.declared.step.DoorStep.{DoorStep}
 use Rattle.startup_route.specs.declared.step.DoorStep.TheVariants as step
-use Rattle.startup_route.specs.Openings.{opening, is_need}
+use Rattle.startup_route.specs.Entrances.{entrance, is_need}
 
 pub record Knows (says : ℕ) (over : Bool) (fed : List ℕ) : Type 0 where
-  pub says_is : says ≡ (opening fed).says
-  pub over_is : over ≡ not (is_need (opening fed).step)
+  pub says_is : says ≡ (entrance fed).says
+  pub over_is : over ≡ not (is_need (entrance fed).step)
 
 -- whether a door goes on behind this answer
 abbrev pub goes_on : DoorStep → Bool

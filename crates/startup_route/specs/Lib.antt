@@ -3,5 +3,5 @@ pub mod Tenants
 pub mod Clusters
 pub mod Routes
 pub mod Packets
-pub mod Openings
+pub mod Entrances
 pub mod Doors

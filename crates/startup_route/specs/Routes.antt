@@ -9,8 +9,8 @@ use Rattle.pgw_messages.specs.Startup.{params_of}
 use Rattle.proxy_outside.specs.declared.identity.TenantId.{TenantId}
 use Rattle.startup_route.specs.declared.fault.DoorFault.{DoorFault}
 use Rattle.startup_route.specs.declared.fault.DoorFault.TheVariants as fault
-use Rattle.startup_route.specs.declared.refusal.Refusal.{Refusal}
-use Rattle.startup_route.specs.declared.refusal.Refusal.TheVariants.{Fault, OutOfMemory}
+use Rattle.startup_route.specs.declared.packet_fault.PacketFault.{PacketFault}
+use Rattle.startup_route.specs.declared.packet_fault.PacketFault.TheVariants.{Fault, OutOfMemory}
 use Rattle.startup_route.specs.declared.step.Route.{Route}
 use Rattle.startup_route.specs.Clusters.{options_left, database_left, names, one_of}
 use Rattle.startup_route.specs.Tenants.{number_behind}
@@ -21,7 +21,7 @@ abbrev pub ◌>>=◌ : {A B : Type 0} → Result A DoorFault → (A → Result B
 (Err e) >>= f = Err e
 
 -- the call answers what is so decided, unless memory ran out
-abbrev pub Decides : {A : Type 0} → Result A DoorFault → Result A Refusal → Type 0
+abbrev pub Decides : {A : Type 0} → Result A DoorFault → Result A PacketFault → Type 0
 Decides want (Ok x) = want ≡ Ok x
 Decides want (Err (Fault f)) = want ≡ Err f
 Decides want (Err OutOfMemory) = Unit {0}

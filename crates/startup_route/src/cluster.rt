@@ -9,7 +9,7 @@ ghost use Rattle.startup_route.specs.Clusters.{prefixes, database_left, names, o
 ghost use Rattle.startup_route.specs.Routes.{Decides};
 
 use crate::fault::DoorFault;
-use crate::refusal::Refusal;
+use crate::packet_fault::PacketFault;
 use pgw_frames::{NoMemory, Text};
 use std::alloc::{AllocError, Global};
 
@@ -105,14 +105,14 @@ fn are_all(names: &[&str], name: &str) -> bool
 }
 
 /// The one cluster that all of these names are.
-fn one_of(alloc: Global, names: &[&str]) -> Result<Text, Refusal>
+fn one_of(alloc: Global, names: &[&str]) -> Result<Text, PacketFault>
     ensures { Decides (one_of (texts names.now)) result }
 {
     let Some((first, others)) = names.split_first() else {
-        return Err(Refusal::Fault(DoorFault::NoCluster));
+        return Err(PacketFault::Fault(DoorFault::NoCluster));
     };
     if !are_all(others, first) {
-        return Err(Refusal::Fault(DoorFault::TwoClusters));
+        return Err(PacketFault::Fault(DoorFault::TwoClusters));
     }
     Ok(Text::of(alloc, first)?)
 }
@@ -131,7 +131,11 @@ fn names<'a>(alloc: Global, options: &'a str, database: &'a str) -> Result<Vec<&
 }
 
 /// The cluster that options and database name.
-pub(crate) fn read_cluster(alloc: Global, options: &str, database: &str) -> Result<Text, Refusal>
+pub(crate) fn read_cluster(
+    alloc: Global,
+    options: &str,
+    database: &str,
+) -> Result<Text, PacketFault>
     ensures { Decides (one_of (names options.now database.now)) result }
 {
     let names = names(alloc, options, database)?;

@@ -2,7 +2,7 @@
 
 ghost use Rattle.std.specs.Prelude.{◌≡◌, ◌+◌, ◌-◌, ◌*◌, ◌<◌, ◌≤◌, [], ◌++◌, length, drop, IfOk, OnOk, OnErr};
 ghost use Rattle.startup_route.specs.Packets.{step_of};
-ghost use Rattle.startup_route.specs.Openings.{opening, wanted, step_between};
+ghost use Rattle.startup_route.specs.Entrances.{entrance, wanted, step_between};
 ghost use Rattle.startup_route.specs.Doors.{goes_on, said_by};
 
 use crate::header::missing;
@@ -21,7 +21,7 @@ pub struct Door {
     fed: Vec<u8>,
     /// How often `N` was the answer.
     says: u8,
-    /// Whether the last answer was a route, a key or a refusal.
+    /// Whether the last answer was a route, a key or a fault.
     over: bool,
 }
 
@@ -103,7 +103,7 @@ impl Door {
     pub fn feed(&mut self, piece: &[u8]) -> Result<DoorStep, NoMemory>
         requires some { 0 < length piece.now }
         requires within { length piece.now ≤ wanted self.old }
-        ensures step { IfOk result (λ s. s ≡ step_between (opening self.old) (opening (self.old ++ piece.now))) }
+        ensures step { IfOk result (λ s. s ≡ step_between (entrance self.old) (entrance (self.old ++ piece.now))) }
         ensures fed { OnOk result (self.new ≡ self.old ++ piece.now) }
         ensures err { OnErr result (self.new ≡ self.old) }
     {

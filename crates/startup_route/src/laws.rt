@@ -1,6 +1,6 @@
 //! What a door reads, and what it doesn't.
 
-ghost use Rattle.startup_route.specs.Openings.{NothingBehindCounts, EachWantedIsNeeded};
+ghost use Rattle.startup_route.specs.Entrances.{NothingBehindCounts, EachWantedIsNeeded};
 ghost use Rattle.startup_route.specs.Tenants.{NumbersStandLast};
 
 /// Says that the answer to all bytes is known from the packets alone: bytes behind a startup packet, a

@@ -17,7 +17,7 @@ mod fault;
 mod header;
 mod laws;
 mod packet;
-mod refusal;
+mod packet_fault;
 mod rejection;
 mod route;
 mod step;

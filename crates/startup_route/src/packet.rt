@@ -6,7 +6,7 @@ ghost use Rattle.startup_route.specs.Routes.{route_of};
 
 use crate::fault::DoorFault;
 use crate::header::{Kind, kind_of, word_at};
-use crate::refusal::Refusal;
+use crate::packet_fault::PacketFault;
 use crate::route::read_route;
 use crate::step::DoorStep;
 use pgw_frames::NoMemory;
@@ -51,8 +51,8 @@ fn body_step(alloc: Global, body: &[u8]) -> Result<DoorStep, NoMemory>
 {
     match read_route(alloc, body) {
         Ok(route) => Ok(DoorStep::Ready(route)),
-        Err(Refusal::Fault(fault)) => Ok(DoorStep::Refused(fault)),
-        Err(Refusal::OutOfMemory) => Err(NoMemory),
+        Err(PacketFault::Fault(fault)) => Ok(DoorStep::Refused(fault)),
+        Err(PacketFault::OutOfMemory) => Err(NoMemory),
     }
 }
 

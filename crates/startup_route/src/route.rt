@@ -9,7 +9,7 @@ ghost use Rattle.startup_route.specs.Routes.{tenant_of, with_options, rewritten,
 
 use crate::cluster::{database_left, options_left, read_cluster};
 use crate::fault::DoorFault;
-use crate::refusal::Refusal;
+use crate::packet_fault::PacketFault;
 use crate::step::Route;
 use crate::tenant::number_behind;
 use pgw_frames::{NoMemory, Text};
@@ -18,19 +18,19 @@ use proxy_outside::TenantId;
 use std::alloc::Global;
 
 /// The parameters behind the version.
-fn read_pairs(alloc: Global, body: &[u8]) -> Result<Params, Refusal>
+fn read_pairs(alloc: Global, body: &[u8]) -> Result<Params, PacketFault>
     ensures { Decides (as_pairs (params_of body.now)) result }
 {
     match read_params(alloc, body) {
         Ok(params) => Ok(params),
-        Err(MsgFault::NoMemory) => Err(Refusal::OutOfMemory),
+        Err(MsgFault::NoMemory) => Err(PacketFault::OutOfMemory),
         Err(
             MsgFault::UnknownTag(_)
             | MsgFault::Short
             | MsgFault::Trailing
             | MsgFault::NotText
             | MsgFault::BadValue,
-        ) => Err(Refusal::Fault(DoorFault::BadPairs)),
+        ) => Err(PacketFault::Fault(DoorFault::BadPairs)),
     }
 }
 
@@ -49,12 +49,12 @@ fn reserved(params: &Params) -> Option<&Pair>
 }
 
 /// Hands the parameters on where none is reserved.
-fn unreserved(alloc: Global, params: Params) -> Result<Params, Refusal>
+fn unreserved(alloc: Global, params: Params) -> Result<Params, PacketFault>
     ensures { Decides (unreserved params) result }
 {
     if let Some(pair) = reserved(&params) {
         let name = Text::of(alloc, pair.name.as_str())?;
-        return Err(Refusal::Fault(DoorFault::ReservedParam(name)));
+        return Err(PacketFault::Fault(DoorFault::ReservedParam(name)));
     }
     Ok(params)
 }
@@ -66,23 +66,23 @@ fn text_of(alloc: Global, params: &Params, name: &str) -> Result<Text, NoMemory>
     Text::of(alloc, params.value(name).unwrap_or(""))
 }
 
-fn read_user(alloc: Global, params: &Params) -> Result<Text, Refusal>
+fn read_user(alloc: Global, params: &Params) -> Result<Text, PacketFault>
     ensures { Decides (nonempty (text_of (codes "user") params.now)) result }
 {
     let user = text_of(alloc, params, "user")?;
     if user.as_str().is_empty() {
-        return Err(Refusal::Fault(DoorFault::NoUser));
+        return Err(PacketFault::Fault(DoorFault::NoUser));
     }
     Ok(user)
 }
 
 /// The tenant of a cluster.
-fn tenant_of(cluster: Text) -> Result<TenantId, Refusal>
+fn tenant_of(cluster: Text) -> Result<TenantId, PacketFault>
     ensures { Decides (tenant_of cluster) result }
 {
     match number_behind(cluster.as_str()) {
         Some(number) => Ok(TenantId(number)),
-        None => Err(Refusal::Fault(DoorFault::BadTenant(cluster))),
+        None => Err(PacketFault::Fault(DoorFault::BadTenant(cluster))),
     }
 }
 
@@ -114,7 +114,7 @@ fn rewrite(
 }
 
 /// The route by these parameters.
-fn routed(alloc: Global, mut params: Params) -> Result<Route, Refusal>
+fn routed(alloc: Global, mut params: Params) -> Result<Route, PacketFault>
     ensures { Decides (routed params) result }
 {
     let user = read_user(alloc, &params)?;
@@ -138,7 +138,7 @@ fn routed(alloc: Global, mut params: Params) -> Result<Route, Refusal>
 
 /// The route by what stands behind the version of a startup packet.
 #[tactic(auto, unfolding(crate::specs::Routes::route_of))]
-pub(crate) fn read_route(alloc: Global, body: &[u8]) -> Result<Route, Refusal>
+pub(crate) fn read_route(alloc: Global, body: &[u8]) -> Result<Route, PacketFault>
     ensures { Decides (route_of body.now) result }
 {
     let params = read_pairs(alloc, body)?;

@@ -5,7 +5,7 @@ ghost use Rattle.std.specs.Option.{option_map, option_copied};
 ghost use Rattle.std.specs.FinMap as map;
 ghost use Rattle.tenant_directory.specs.declared.directory.Home.{Home};
 ghost use Rattle.tenant_directory.specs.Pods.{IsFit};
-ghost use Rattle.tenant_directory.specs.Rows.{Row};
+ghost use Rattle.tenant_directory.specs.Rows.{TenantPods};
 ghost use Rattle.tenant_directory.specs.Newest.{pods_of, stale_version, answer_to};
 ghost use Rattle.tenant_directory.specs.Standing.{StandsFor, rows_after};
 
@@ -70,7 +70,7 @@ impl Directory {
     pub fn apply(&mut self, row: TenantRow) -> Result<Applied, NoMemory>
         ensures ok { OnOk result (self.new ≡ record self.old { rows = rows_after self.old.rows row }) }
         ensures answer { IfOk result (λ a. a ≡ answer_to (map.get self.old.rows row.tenant) row) }
-        ensures history { OnOk result ((rows : List Row) → StandsFor self.old rows → StandsFor self.new (row ∷ rows)) }
+        ensures history { OnOk result ((rows : List TenantPods) → StandsFor self.old rows → StandsFor self.new (row ∷ rows)) }
         ensures err { OnErr result (self.new ≡ self.old) }
     {
         if let Some(version) = self.stale_version(&row) {
@@ -93,8 +93,8 @@ impl Directory {
 
     /// The pods of a tenant, or `None` where no row of it was applied. It takes no memory.
     pub fn pods(&self, tenant: TenantId) -> Option<&[Pod]>
-        ensures value { option_copied result ≡ option_map (λ (r : Row). r.pods) (map.get self.now.rows tenant) }
-        ensures history { (rows : List Row) → StandsFor self.now rows → option_copied result ≡ pods_of rows tenant }
+        ensures value { option_copied result ≡ option_map (λ (r : TenantPods). r.pods) (map.get self.now.rows tenant) }
+        ensures history { (rows : List TenantPods) → StandsFor self.now rows → option_copied result ≡ pods_of rows tenant }
         ensures fit { IfSome result (λ pods. IsFit pods.now) }
     {
         match self.rows.get(&tenant) {

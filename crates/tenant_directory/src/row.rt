@@ -24,10 +24,10 @@ pub struct TenantRow {
 }
 
 impl Model for TenantRow {
-    ghost use Rattle.tenant_directory.specs.Rows.{Row};
+    ghost use Rattle.tenant_directory.specs.Rows.{TenantPods};
     ghost use Rattle.tenant_directory.specs.Pods.{IsFit};
 
-    ghost Value = { Row };
+    ghost Value = { TenantPods };
 
     ghost view = { λ r. record { tenant = r.tenant; version = r.version; pods = r.pods.items } };
 

@@ -16,6 +16,7 @@ use crate::backend::status::{read_key, read_ready};
 use crate::fault::MsgFault;
 use crate::params::Pair;
 use crate::reader::Reader;
+use crate::tags;
 use pgw_frames::{Bytes, Frame};
 use std::alloc::Global;
 
@@ -24,24 +25,24 @@ fn read_body(tag: u8, r: &mut Reader<'_>) -> Result<BackMsg, MsgFault>
     ensures { Reads result r.new (back_at tag r.old) }
 {
     match tag {
-        b'R' => Ok(BackMsg::Auth(AuthMsg::read(r)?)),
-        b'S' => Ok(BackMsg::Status(Pair::read(r)?)),
-        b'K' => Ok(BackMsg::Key(read_key(r)?)),
-        b'Z' => Ok(BackMsg::Ready(read_ready(r)?)),
-        b'T' => Ok(BackMsg::Columns(r.list::<Column>()?)),
-        b'D' => Ok(BackMsg::Row(r.list::<Option<Bytes>>()?)),
-        b'C' => Ok(BackMsg::Complete(r.text()?)),
-        b'I' => Ok(BackMsg::Empty),
-        b'E' => Ok(BackMsg::Fault(read_fields(r)?)),
-        b'N' => Ok(BackMsg::Notice(read_fields(r)?)),
-        b'A' => Ok(BackMsg::Notify(NotifyMsg::read(r)?)),
-        b'1' => Ok(BackMsg::ParseDone),
-        b'2' => Ok(BackMsg::BindDone),
-        b'3' => Ok(BackMsg::CloseDone),
-        b't' => Ok(BackMsg::ParamTypes(r.list::<u32>()?)),
-        b'n' => Ok(BackMsg::NoRows),
-        b's' => Ok(BackMsg::Suspended),
-        b'G' => Ok(BackMsg::CopyIn(CopyMsg::read(r)?)),
+        tags::AUTHENTICATION => Ok(BackMsg::Auth(AuthMsg::read(r)?)),
+        tags::PARAMETER_STATUS => Ok(BackMsg::Status(Pair::read(r)?)),
+        tags::BACKEND_KEY_DATA => Ok(BackMsg::Key(read_key(r)?)),
+        tags::READY_FOR_QUERY => Ok(BackMsg::Ready(read_ready(r)?)),
+        tags::ROW_DESCRIPTION => Ok(BackMsg::Columns(r.list::<Column>()?)),
+        tags::DATA_ROW => Ok(BackMsg::Row(r.list::<Option<Bytes>>()?)),
+        tags::COMMAND_COMPLETE => Ok(BackMsg::Complete(r.text()?)),
+        tags::EMPTY_QUERY_RESPONSE => Ok(BackMsg::Empty),
+        tags::ERROR_RESPONSE => Ok(BackMsg::Fault(read_fields(r)?)),
+        tags::NOTICE_RESPONSE => Ok(BackMsg::Notice(read_fields(r)?)),
+        tags::NOTIFICATION_RESPONSE => Ok(BackMsg::Notify(NotifyMsg::read(r)?)),
+        tags::PARSE_COMPLETE => Ok(BackMsg::ParseDone),
+        tags::BIND_COMPLETE => Ok(BackMsg::BindDone),
+        tags::CLOSE_COMPLETE => Ok(BackMsg::CloseDone),
+        tags::PARAMETER_DESCRIPTION => Ok(BackMsg::ParamTypes(r.list::<u32>()?)),
+        tags::NO_DATA => Ok(BackMsg::NoRows),
+        tags::PORTAL_SUSPENDED => Ok(BackMsg::Suspended),
+        tags::COPY_IN_RESPONSE => Ok(BackMsg::CopyIn(CopyMsg::read(r)?)),
         _ => Err(MsgFault::UnknownTag(tag)),
     }
 }

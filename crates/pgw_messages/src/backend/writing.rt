@@ -6,32 +6,33 @@ ghost use Rattle.pgw_messages.specs.Backend.{CanWriteBack, IsBack, back_of, back
 use crate::backend::fields::write_fields;
 use crate::backend::message::BackMsg;
 use crate::backend::status::write_key;
-use crate::writer::Writer;
-use pgw_frames::{Frame, NoMemory};
+use crate::tags;
+use crate::writer::{Writer, text_body};
+use pgw_frames::{Bytes, Frame, NoMemory};
 use std::alloc::Global;
 
 fn tag_of(m: &BackMsg) -> u8
     ensures { result ≡ back_tag m.now }
 {
     match m {
-        BackMsg::Auth(_) => b'R',
-        BackMsg::Status(_) => b'S',
-        BackMsg::Key(_) => b'K',
-        BackMsg::Ready(_) => b'Z',
-        BackMsg::Columns(_) => b'T',
-        BackMsg::Row(_) => b'D',
-        BackMsg::Complete(_) => b'C',
-        BackMsg::Empty => b'I',
-        BackMsg::Fault(_) => b'E',
-        BackMsg::Notice(_) => b'N',
-        BackMsg::Notify(_) => b'A',
-        BackMsg::ParseDone => b'1',
-        BackMsg::BindDone => b'2',
-        BackMsg::CloseDone => b'3',
-        BackMsg::ParamTypes(_) => b't',
-        BackMsg::NoRows => b'n',
-        BackMsg::Suspended => b's',
-        BackMsg::CopyIn(_) => b'G',
+        BackMsg::Auth(_) => tags::AUTHENTICATION,
+        BackMsg::Status(_) => tags::PARAMETER_STATUS,
+        BackMsg::Key(_) => tags::BACKEND_KEY_DATA,
+        BackMsg::Ready(_) => tags::READY_FOR_QUERY,
+        BackMsg::Columns(_) => tags::ROW_DESCRIPTION,
+        BackMsg::Row(_) => tags::DATA_ROW,
+        BackMsg::Complete(_) => tags::COMMAND_COMPLETE,
+        BackMsg::Empty => tags::EMPTY_QUERY_RESPONSE,
+        BackMsg::Fault(_) => tags::ERROR_RESPONSE,
+        BackMsg::Notice(_) => tags::NOTICE_RESPONSE,
+        BackMsg::Notify(_) => tags::NOTIFICATION_RESPONSE,
+        BackMsg::ParseDone => tags::PARSE_COMPLETE,
+        BackMsg::BindDone => tags::BIND_COMPLETE,
+        BackMsg::CloseDone => tags::CLOSE_COMPLETE,
+        BackMsg::ParamTypes(_) => tags::PARAMETER_DESCRIPTION,
+        BackMsg::NoRows => tags::NO_DATA,
+        BackMsg::Suspended => tags::PORTAL_SUSPENDED,
+        BackMsg::CopyIn(_) => tags::COPY_IN_RESPONSE,
     }
 }
 
@@ -78,13 +79,30 @@ pub fn write_back(alloc: Global, m: &BackMsg) -> Result<Frame, NoMemory>
     })
 }
 
+/// The body of a message that isn't needed any more.
+fn into_body(m: BackMsg, alloc: Global) -> Result<Bytes, NoMemory>
+    ensures { IfOk result (λ b. b ≡ back_body m) }
+{
+    match m {
+        BackMsg::Complete(tag) => text_body(tag),
+        written => {
+            let mut body = Writer::new(alloc)?;
+            let done = write_body(&written, &mut body);
+            drop(written);
+            done?;
+            Ok(body.into_bytes())
+        }
+    }
+}
+
 impl BackMsg {
-    /// The frame that the message is, where the message isn't needed any more.
+    /// The frame that the message is, where the message isn't needed any more. The tag of a CommandComplete
+    /// gives its memory to the frame.
     pub fn into_frame(self, alloc: Global) -> Result<Frame, NoMemory>
         ensures { IfOk result (λ f. f ≡ back_frame self) }
     {
-        let frame = write_back(alloc, &self);
-        drop(self);
-        frame
+        let tag = tag_of(&self);
+        let body = into_body(self, alloc)?;
+        Ok(Frame { tag, body })
     }
 }

@@ -13,6 +13,7 @@ use crate::frontend::message::FrontMsg;
 use crate::frontend::parse::ParseMsg;
 use crate::frontend::part::Part;
 use crate::reader::Reader;
+use crate::tags;
 use pgw_frames::Frame;
 use std::alloc::Global;
 
@@ -21,20 +22,20 @@ fn read_body(tag: u8, r: &mut Reader<'_>) -> Result<FrontMsg, MsgFault>
     ensures { Reads result r.new (front_at tag r.old) }
 {
     match tag {
-        b'Q' => Ok(FrontMsg::Query(r.text()?)),
-        b'P' => Ok(FrontMsg::Parse(ParseMsg::read(r)?)),
-        b'B' => Ok(FrontMsg::Bind(BindMsg::read(r)?)),
-        b'D' => Ok(FrontMsg::Describe(Part::read(r)?)),
-        b'E' => Ok(FrontMsg::Execute(ExecuteMsg::read(r)?)),
-        b'S' => Ok(FrontMsg::Sync),
-        b'H' => Ok(FrontMsg::Flush),
-        b'C' => Ok(FrontMsg::Close(Part::read(r)?)),
-        b'F' => Ok(FrontMsg::Call(r.remaining()?)),
-        b'd' => Ok(FrontMsg::CopyData(r.remaining()?)),
-        b'c' => Ok(FrontMsg::CopyDone),
-        b'f' => Ok(FrontMsg::CopyFail(r.text()?)),
-        b'p' => Ok(FrontMsg::Password(r.remaining()?)),
-        b'X' => Ok(FrontMsg::Terminate),
+        tags::QUERY => Ok(FrontMsg::Query(r.text()?)),
+        tags::PARSE => Ok(FrontMsg::Parse(ParseMsg::read(r)?)),
+        tags::BIND => Ok(FrontMsg::Bind(BindMsg::read(r)?)),
+        tags::DESCRIBE => Ok(FrontMsg::Describe(Part::read(r)?)),
+        tags::EXECUTE => Ok(FrontMsg::Execute(ExecuteMsg::read(r)?)),
+        tags::SYNC => Ok(FrontMsg::Sync),
+        tags::FLUSH => Ok(FrontMsg::Flush),
+        tags::CLOSE => Ok(FrontMsg::Close(Part::read(r)?)),
+        tags::FUNCTION_CALL => Ok(FrontMsg::Call(r.remaining()?)),
+        tags::COPY_DATA => Ok(FrontMsg::CopyData(r.remaining()?)),
+        tags::COPY_DONE => Ok(FrontMsg::CopyDone),
+        tags::COPY_FAIL => Ok(FrontMsg::CopyFail(r.text()?)),
+        tags::PASSWORD_MESSAGE => Ok(FrontMsg::Password(r.remaining()?)),
+        tags::TERMINATE => Ok(FrontMsg::Terminate),
         _ => Err(MsgFault::UnknownTag(tag)),
     }
 }

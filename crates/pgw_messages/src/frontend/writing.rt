@@ -4,28 +4,29 @@ ghost use Rattle.std.specs.Prelude.{◌≡◌, ◌++◌, Ok, OnOk, IfOk};
 ghost use Rattle.pgw_messages.specs.Frontend.{CanWriteFront, IsFront, front_of, front_tag, front_body, front_frame};
 
 use crate::frontend::message::FrontMsg;
-use crate::writer::Writer;
-use pgw_frames::{Frame, NoMemory};
+use crate::tags;
+use crate::writer::{Writer, text_body};
+use pgw_frames::{Bytes, Frame, NoMemory};
 use std::alloc::Global;
 
 fn tag_of(m: &FrontMsg) -> u8
     ensures { result ≡ front_tag m.now }
 {
     match m {
-        FrontMsg::Query(_) => b'Q',
-        FrontMsg::Parse(_) => b'P',
-        FrontMsg::Bind(_) => b'B',
-        FrontMsg::Describe(_) => b'D',
-        FrontMsg::Execute(_) => b'E',
-        FrontMsg::Sync => b'S',
-        FrontMsg::Flush => b'H',
-        FrontMsg::Close(_) => b'C',
-        FrontMsg::Call(_) => b'F',
-        FrontMsg::CopyData(_) => b'd',
-        FrontMsg::CopyDone => b'c',
-        FrontMsg::CopyFail(_) => b'f',
-        FrontMsg::Password(_) => b'p',
-        FrontMsg::Terminate => b'X',
+        FrontMsg::Query(_) => tags::QUERY,
+        FrontMsg::Parse(_) => tags::PARSE,
+        FrontMsg::Bind(_) => tags::BIND,
+        FrontMsg::Describe(_) => tags::DESCRIBE,
+        FrontMsg::Execute(_) => tags::EXECUTE,
+        FrontMsg::Sync => tags::SYNC,
+        FrontMsg::Flush => tags::FLUSH,
+        FrontMsg::Close(_) => tags::CLOSE,
+        FrontMsg::Call(_) => tags::FUNCTION_CALL,
+        FrontMsg::CopyData(_) => tags::COPY_DATA,
+        FrontMsg::CopyDone => tags::COPY_DONE,
+        FrontMsg::CopyFail(_) => tags::COPY_FAIL,
+        FrontMsg::Password(_) => tags::PASSWORD_MESSAGE,
+        FrontMsg::Terminate => tags::TERMINATE,
     }
 }
 
@@ -63,13 +64,31 @@ pub fn write_front(alloc: Global, m: &FrontMsg) -> Result<Frame, NoMemory>
     })
 }
 
+/// The body of a message that isn't needed any more.
+fn into_body(m: FrontMsg, alloc: Global) -> Result<Bytes, NoMemory>
+    ensures { IfOk result (λ b. b ≡ front_body m) }
+{
+    match m {
+        FrontMsg::Query(text) | FrontMsg::CopyFail(text) => text_body(text),
+        FrontMsg::Call(rest) | FrontMsg::CopyData(rest) | FrontMsg::Password(rest) => Ok(rest),
+        written => {
+            let mut body = Writer::new(alloc)?;
+            let done = write_body(&written, &mut body);
+            drop(written);
+            done?;
+            Ok(body.into_bytes())
+        }
+    }
+}
+
 impl FrontMsg {
-    /// The frame that the message is, where the message isn't needed any more.
+    /// The frame that the message is, where the message isn't needed any more. A message that is one text
+    /// or bytes gives its memory to the frame.
     pub fn into_frame(self, alloc: Global) -> Result<Frame, NoMemory>
         ensures { IfOk result (λ f. f ≡ front_frame self) }
     {
-        let frame = write_front(alloc, &self);
-        drop(self);
-        frame
+        let tag = tag_of(&self);
+        let body = into_body(self, alloc)?;
+        Ok(Frame { tag, body })
     }
 }

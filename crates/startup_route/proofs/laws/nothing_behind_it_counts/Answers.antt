@@ -1,4 +1,4 @@
-use Rattle.startup_route.proofs.OpeningLemmas.{nothing_behind}
+use Rattle.startup_route.proofs.EntranceLemmas.{nothing_behind}
 use Rattle.startup_route.proofs.laws.nothing_behind_it_counts.Goals as goal
 
 pub returns : goal.returns

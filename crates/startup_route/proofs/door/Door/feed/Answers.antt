@@ -1,7 +1,7 @@
 use Rattle.std.proofs.Common.{◌≡◌, ◌∙◌, ◌<◌, ◌≤◌, ◌++◌, length, arith}
 use Rattle.std.proofs.lemmas.List.{length-append}
-use Rattle.startup_route.specs.Openings.{wanted}
-use Rattle.startup_route.proofs.OpeningLemmas.{wanting_door, fed_more}
+use Rattle.startup_route.specs.Entrances.{wanted}
+use Rattle.startup_route.proofs.EntranceLemmas.{wanting_door, fed_more}
 use Rattle.startup_route.proofs.door.Door.feed.Goals as goal
 
 pub step_behind-requires-clause-most : goal.step_behind-requires-clause-most

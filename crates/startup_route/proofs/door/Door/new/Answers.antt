@@ -1,4 +1,4 @@
-use Rattle.startup_route.proofs.OpeningLemmas.{new_door}
+use Rattle.startup_route.proofs.EntranceLemmas.{new_door}
 use Rattle.startup_route.proofs.door.Door.new.Goals as goal
 
 pub invariant_of-result : goal.invariant_of-result

@@ -1,6 +1,6 @@
 use Rattle.std.proofs.Common.{false}
 use Rattle.startup_route.specs.Doors.{Knows}
-use Rattle.startup_route.proofs.OpeningLemmas.{open_door}
+use Rattle.startup_route.proofs.EntranceLemmas.{open_door}
 use Rattle.startup_route.proofs.door.Door.want.Goals as goal
 
 pub behind-requires : goal.behind-requires

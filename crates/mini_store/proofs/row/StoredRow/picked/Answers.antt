@@ -2,7 +2,7 @@ use Rattle.std.proofs.Common.{◌≡◌, ◌<◌, ◌++◌, length, get_or, ap, 
 use Rattle.std.specs.Option.{option_copied, option_to_list}
 use Rattle.std.specs.Prelude.{slice_get}
 use Rattle.mini_store.proofs.Picking.{picked_more}
-use Rattle.mini_store.proofs.row.Row.picked.Goals as goal
+use Rattle.mini_store.proofs.row.StoredRow.picked.Goals as goal
 
 pub loop-place-preserved : goal.loop-place-preserved
 loop-place-preserved c =

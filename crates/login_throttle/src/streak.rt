@@ -10,7 +10,7 @@ pub const MOST_WAIT: u64 = 3_600;
 
 /// The failures in a row, and the moment of the last one.
 #[derive(Clone, Copy, Debug, PartialEq, Eq)]
-pub(crate) struct Row {
+pub(crate) struct Streak {
     /// Stops at 4,294,967,295.
     pub failures: u32,
     /// In seconds.
@@ -25,22 +25,22 @@ fn wait_after(failures: u32) -> u64
         .min(MOST_WAIT)
 }
 
-impl Row {
+impl Streak {
     /// After a first failure.
-    pub fn first(now: u64) -> Row
+    pub fn first(now: u64) -> Streak
         ensures { result ≡ record { failures = 1; last = now } }
     {
-        Row {
+        Streak {
             failures: 1,
             last: now,
         }
     }
 
     /// After one failure more.
-    pub fn next(&self, now: u64) -> Row
+    pub fn next(&self, now: u64) -> Streak
         ensures { result ≡ record { failures = min (self.now.failures + 1) (2 ^ 32 - 1); last = now } }
     {
-        Row {
+        Streak {
             failures: self.failures.saturating_add(1),
             last: now,
         }

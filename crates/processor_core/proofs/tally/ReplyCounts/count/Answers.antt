@@ -1,6 +1,6 @@
 use Rattle.std.proofs.Common.{◌∙◌, sym}
 use Rattle.processor_core.proofs.Counting.{readies_counted, last_one}
-use Rattle.processor_core.proofs.tally.Replies.count.Goals as goal
+use Rattle.processor_core.proofs.tally.ReplyCounts.count.Goals as goal
 
 pub returns : goal.returns
 returns c handed f e h = record {
