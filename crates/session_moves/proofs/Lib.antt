@@ -3,7 +3,11 @@ pub mod Lists
 pub mod Shown
 pub mod OnNewLink
 pub mod Recorded
+pub mod OldTypes
+pub mod Gifts
 pub mod OnOldLink
+pub mod OpeningKeys
+pub mod Parked
 pub mod Places
 pub mod Behind
 pub mod Onward

@@ -1,7 +1,11 @@
 -- A trace so far with a move.
 use Rattle.std.proofs.Common.{◌≡◌, ℕ, ◌-◌, ◌^◌, ◌<◌, true, false, List, [], ◌∷◌, ◌++◌, length, Option, Some, refl, sym, ap, subst, ◌∙◌, append-nil, inl, inr}
 use Rattle.std.specs.Prelude.{slice_get}
+use Rattle.std.specs.List.{flat_map}
+use Rattle.std.specs.Option.{option_to_list}
+use Rattle.pgw_frames.specs.declared.frame.Frame.{Frame}
 use Rattle.pgw_frames.specs.Frames.{frame_bytes, render}
+use Rattle.pgw_messages.specs.Backend.{back_of}
 use Rattle.pgw_messages.specs.declared.params.Pair.{Pair}
 use Rattle.pgw_messages.specs.declared.pod_key.PodKey.{PodKey}
 use Rattle.proxy_links.specs.Links.{Links, LinkCounts, LinkRecord, counts_of, hung}
@@ -12,20 +16,25 @@ use Rattle.proxy_outside.specs.Reading.{Origin}
 use Rattle.proxy_outside.specs.Writing.{Target}
 use Rattle.proxy_outside.specs.declared.place.Place.{Place}
 use Rattle.link_io.proofs.Parts.{push_push}
+use Rattle.session_asks.specs.Greetings.{keys_of, key_read}
 use Rattle.session_model.specs.Texts.{transfer_query, restore_query}
 use Rattle.session_model.specs.declared.transfer.TransferKey.{TransferKey}
+use Rattle.session_trace.specs.Openings.{IsWhole}
 use Rattle.session_trace.specs.Records.{left, link_sent, link_got, open_link, opening_next, record_of}
 use Rattle.session_trace.specs.Running.{Now, Board}
 use Rattle.session_trace.specs.SoFar.{SoFar}
 use Rattle.session_trace.specs.Trace.{Attempt, Next, Moved, Opening, Round, all_forwarded, all_relayed, link_sent_next, link_got_next}
+use Rattle.session_trace.proofs.Bytes.{frames_rendered}
 use Rattle.session_trace.proofs.Growth.{move_goes_on}
 use Rattle.session_round.specs.Standing.{Begin, Stands}
 use Rattle.transfer_stages.specs.Exchange.{packet}
 use Rattle.session_moves.specs.Attempts.{MovesTo, KeepsOthers}
 use Rattle.session_moves.specs.Going.{Ready, Attempting, with_attempt, GoesOn}
 use Rattle.session_moves.specs.Telling.{TellsLinks, Placed}
+use Rattle.session_moves.specs.declared.moving.Tried.TheVariants as tried
 use Rattle.session_moves.proofs.Behind.{plain, so_far_there, rose_moved, stands_on}
 use Rattle.session_moves.proofs.Lists.{get_front, some_is, hung_told, blank_push}
+use Rattle.session_moves.proofs.OpeningKeys.{keys_accepted}
 use Rattle.session_moves.proofs.Places.{before, placed_hung, placed_new}
 
 grow : (o x y : Option (List ℕ)) (a c d : List ℕ) → x ≡ push o a → y ≡ push x c → a ++ c ≡ d → y ≡ push o d
@@ -133,7 +142,14 @@ module _ (b : Begin) (p : List Pair) (patience : ℕ) (at : Place) (key : Transf
     records = records_are;
   })
 
-  pub moves_on : GoesOn b p patience at key links links' new board newest rs
+  abbrev replied : IsWhole y
+  replied = record { fs = m.reply.frames; good = m.reply.good; bytes = refl }
+
+  keys_here : keys_of opening ≡ option_to_list k
+  keys_here =
+      ap (λ (fs : List Frame). flat_map (λ h. key_read (back_of h)) fs) (frames_rendered m.moves.restored.frames m.moves.restored.good) ∙ keys_accepted m.moves.restored.frames k m.moves.restored.accepts
+
+  pub moves_on : GoesOn b p patience at key links links' new board newest rs (tried.Moved k)
   moves_on = record {
     tried = moving;
     makes = record {
@@ -141,20 +157,22 @@ module _ (b : Begin) (p : List Pair) (patience : ℕ) (at : Place) (key : Transf
       drawn = ([], append-nil x);
       came_to = inr (inl tt);
       dialed = λ d e. ap (λ (v : Dial). v.place) (sym (some_is (record { place = at; came = true }) d e));
+      dials_it = ((replied, key, m.state, m.token, m.reply.accepts), refl, (refl, refl));
       dials = subst (λ (v : Option (List Dial)). Grows links.dials v (record { place = at; came = true } ∷ [])) (sym dials_same) m.moves.came.dials;
       left = tt;
+      led = (refl, keys_here);
     };
     stands = stands_on b old new links links' board newest rs s f g ready kept moving so_far_moved (rose_moved b old new links links' board newest rs s f g ready kept m.reply.heard.idles m.rx.waits m.reply.heard.read.waits);
     placed = placed_hung opening m.between links' m.tx m.rx m.hung (placed_new there opening links m.between at m.moves.fresh m.moves.source m.moves.came placed_there refl refl
         (λ ds e. few_told links' tells ds (dials_same ∙ e)));
-    fits = inl (
+    fits = (
       ready.safe_there,
       (
         key,
         inl (
           refl,
           (
-            record { fs = m.reply.frames; good = m.reply.good; bytes = refl },
+            replied,
             m.state,
             m.token,
             m.reply.accepts,

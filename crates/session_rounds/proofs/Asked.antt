@@ -15,11 +15,11 @@ use Rattle.session_asks.specs.Between.{NamesNone, IsDue, AsksTarget, AsksAfter}
 use Rattle.session_trace.specs.Trace.{Attempt, Round, all_forwarded, all_relayed}
 use Rattle.session_rounds.specs.Asking.{Since, Asked, AskedIn, AskedFor, AimsAt, AimsNowhere, missed_in, is_missed}
 
-missed_append : (xs ys : List Ask) → missed_in (xs ++ ys) ≡ missed_in xs + missed_in ys
+pub missed_append : (xs ys : List Ask) → missed_in (xs ++ ys) ≡ missed_in xs + missed_in ys
 missed_append [] ys = omega arith
 missed_append (x ∷ xs) ys = let more = missed_append xs ys in omega arith
 
-count_more : (u v w m n all : ℕ) → v ≡ raised u m → w ≡ raised v n → all ≡ m + n → w ≡ raised u all
+pub count_more : (u v w m n all : ℕ) → v ≡ raised u m → w ≡ raised v n → all ≡ m + n → w ≡ raised u all
 count_more u v w m n all p q e = omega (arith, p, q, e)
 
 pub asked_on : (o : Since) (mid now : Port) (u v : ℕ) (xs ys : List Ask) → Asked o mid u xs → AsksOn mid now ys → v ≡ raised u (missed_in ys) → Asked o now v (xs ++ ys)

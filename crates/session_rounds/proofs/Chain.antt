@@ -8,7 +8,7 @@ use Rattle.session_rounds.specs.Running.{Runs, RunsOn, RanTo}
 use Rattle.session_rounds.specs.declared.rounds.Stop.{Stop}
 use Rattle.session_rounds.specs.declared.rounds.Stop.TheVariants as stop
 
-same_same : (one two three : Now) → SameLink one two → SameLink two three → SameLink one three
+pub same_same : (one two three : Now) → SameLink one two → SameLink two three → SameLink one three
 same_same one two three p q = record {
   read = let x = p.read in let y = q.read in omega (arith, x, y);
   given = let x = p.given in let y = q.given in omega (arith, x, y);

@@ -25,7 +25,7 @@ fn is_parked(end: LegEnd) -> bool
 }
 
 /// Whether a leg ended because the board said so.
-pub(crate) fn is_look(end: LegEnd) -> bool
+pub fn is_look(end: LegEnd) -> bool
     ensures { result ≡ is_look end }
 {
     match end {

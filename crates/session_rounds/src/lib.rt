@@ -8,4 +8,5 @@ mod due;
 mod rounds;
 mod target;
 
+pub use due::is_look;
 pub use rounds::{Stop, Stopped, run_rounds};

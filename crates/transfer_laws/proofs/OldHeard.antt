@@ -64,7 +64,7 @@ none_left zero = refl
 none_left (suc n) = refl
 
 -- of messages at whose end the pod is awaited
-dues_by : (t : TransferKey) (p : List Pair) (x : Stage) (fs : List Frame) (y : Stage) → Leads AwaitOld t p x fs y → wants y ≡ AwaitOld → dues y ≡ drop (length fs) (dues x)
+pub dues_by : (t : TransferKey) (p : List Pair) (x : Stage) (fs : List Frame) (y : Stage) → Leads AwaitOld t p x fs y → wants y ≡ AwaitOld → dues y ≡ drop (length fs) (dues x)
 dues_by t p x [] y h w = ap dues (sym h)
 dues_by t p x (f ∷ fs) y h w =
     let on : wants (takes t p x f) ≡ AwaitOld = still (takes t p x f) fs h.1 in
@@ -84,7 +84,7 @@ prefix_same [] (y ∷ ys) us vs l e = absurd (omega arith)
 prefix_same (x ∷ xs) [] us vs l e = absurd (omega arith)
 prefix_same (x ∷ xs) (y ∷ ys) us vs l e = prefix_same xs ys us vs (omega arith) (let k : xs ++ us ≡ ys ++ vs = cc in k)
 
-tags_both : (xs ys : List Frame) → tags (xs ++ ys) ≡ tags xs ++ tags ys
+pub tags_both : (xs ys : List Frame) → tags (xs ++ ys) ≡ tags xs ++ tags ys
 tags_both xs ys = map-append (λ f. f.tag) xs ys
 
 tags_length : (xs : List Frame) → length (tags xs) ≡ length xs
@@ -128,7 +128,7 @@ last_none [] ys e = e
 last_none (x ∷ xs) ys e = absurd cc
 
 -- something is due only from a pod that is awaited
-awaits : (x : Stage) (dropped : List Frame) (due : List ℕ) → tags dropped ++ due ≡ dues x → due ≢ [] → wants x ≡ AwaitOld
+pub awaits : (x : Stage) (dropped : List Frame) (due : List ℕ) → tags dropped ++ due ≡ dues x → due ≢ [] → wants x ≡ AwaitOld
 awaits at.OldColumns dropped due e h = refl
 awaits at.OldRow dropped due e h = refl
 awaits (at.OldTag s) dropped due e h = refl
