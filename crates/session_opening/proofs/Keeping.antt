@@ -1,5 +1,5 @@
 -- An opening whose session is ready, stage by stage.
-use Rattle.std.proofs.Common.{◌≡◌, ℕ, false, List, [], ◌∷◌, ◌++◌, Option, Some, Result, Ok, Err, inl, inr, refl, sym, ap, ◌∙◌, subst, append_assoc}
+use Rattle.std.proofs.Common.{◌≡◌, ℕ, ◌≤◌, false, List, [], ◌∷◌, ◌++◌, Option, Some, Result, Ok, Err, inl, inr, refl, sym, ap, ◌∙◌, subst, append_assoc}
 use Rattle.pgw_messages.specs.declared.params.Pair.{Pair}
 use Rattle.pgw_messages.specs.declared.pod_key.PodKey.{PodKey}
 use Rattle.proxy_outside.specs.Reading.{Origin}
@@ -77,6 +77,7 @@ pub record Kept (p : List Pair) (n : SessionNo) (key : ClientKey) (fits : List R
   pub rx : link.rx.taken ≡ push (blank old.links.records) first.got
   pub tx_number : link.tx.link ≡ first.number
   pub rx_number : link.rx.link ≡ first.number
+  pub is_open : 1 ≤ new.links.live
   pub taken_is : new.client_in.taken ≡ push old.client_in.taken first.asked
   pub given_is : new.client_out.contents ≡ push old.client_out.contents (keyed key first.got)
 
@@ -127,6 +128,7 @@ kept_link g p waited limits old new w held hub links place tx rx f a =
       rx = ap (λ (x : Held). x.rx.taken) r.kept ∙ b.rx ∙ ap (λ (v : Option (List ℕ)). push v b.got) f.fresh_there.rx_blank;
       tx_number = ap (λ (x : Held). x.tx.link) r.kept ∙ tx_kept ∙ f.fresh_there.same ∙ sym rx_kept;
       rx_number = ap (λ (x : Held). x.rx.link) r.kept;
+      is_open = subst (λ (x : Links). 1 ≤ x.live) (sym r.links) f.fresh_there.is_open;
       taken_is = b.client_in ∙ ap (push old.client_in.taken) (sym ends.all);
       given_is = b.client_out ∙ ap (push old.client_out.contents) given_all;
     }
@@ -157,6 +159,7 @@ kept_one p n key fits fits' old one new w w' w'' a link b lift k = record {
   rx = k.rx ∙ ap (λ (x : Links). push (blank x.records) k.first.got) b.links;
   tx_number = k.tx_number;
   rx_number = k.rx_number;
+  is_open = k.is_open;
   taken_is = k.taken_is ∙ ap (λ x. push x.taken k.first.asked) b.client_in;
   given_is = k.given_is ∙ ap (λ x. push x.contents (keyed key k.first.got)) b.client_out;
 }

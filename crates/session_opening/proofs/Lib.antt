@@ -13,3 +13,4 @@ pub mod Closing
 pub mod Keeping
 pub mod Readied
 pub mod Packets
+pub mod Sinks

@@ -1,5 +1,5 @@
 -- The link of an opening, from its dial to where it is hung up or kept.
-use Rattle.std.proofs.Common.{◌≡◌, ◌⊎◌, ℕ, true, false, List, [], ◌∷◌, ◌++◌, Option, Some, None, Result, Ok, Err, inl, inr, refl, sym, ap, ◌∙◌, subst, arith, append-nil}
+use Rattle.std.proofs.Common.{◌≡◌, ◌⊎◌, ℕ, ◌+◌, ◌≤◌, true, false, List, [], ◌∷◌, ◌++◌, Option, Some, None, Result, Ok, Err, inl, inr, refl, sym, ap, ◌∙◌, subst, arith, append-nil}
 use Rattle.pgw_frames.specs.Frames.{Begins}
 use Rattle.pgw_messages.specs.declared.params.Pair.{Pair}
 use Rattle.pgw_messages.specs.declared.pod_key.PodKey.{PodKey}
@@ -91,6 +91,7 @@ pub record Fresh (old links : Links) (tx : Target) (rx : Origin) : Type 0 where
   pub rx_blank : rx.taken ≡ blank old.records
   pub same : tx.link ≡ rx.link
   pub kept : links.records ≡ old.records
+  pub is_open : 1 ≤ links.live
 
 fresh : (old between links : Links) (ds : List Dial) (place : Place) (tx : Target) (rx : Origin) → FailedDials old between ds → Came between links place tx rx → Fresh old links tx rx
 fresh old between links ds place tx rx failed c =
@@ -101,6 +102,7 @@ fresh old between links ds place tx rx failed c =
       rx_blank = ap (λ (x : Origin). x.taken) c.rx ∙ ap blank kept;
       same = ap (λ (x : Target). x.link) c.tx ∙ sym (ap (λ (x : Origin). x.link) c.rx);
       kept = t.records;
+      is_open = let e = ap (λ (x : Links). x.live) c.others in omega (arith, e);
     }
 
 -- ---- stages

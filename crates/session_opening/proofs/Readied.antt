@@ -41,6 +41,8 @@ fits peer route old new words words' r i =
       words_are = refl;
       asks_go_on = λ rs later release rounds alone.
           subst (λ (v : List Ask). AsksHub (client_with peer route r) k.dials (Some k.first) rs v) (append_assoc k.asks later release) (k.fitting rs later rounds release alone);
+      alike = k.tx_number ∙ sym k.rx_number;
+      is_open = k.is_open;
       so_far = λ request response. record {
         tx = k.tx;
         rx = k.rx ∙ ap (push (blank old.links.records)) (sym (append-nil k.first.got));

@@ -1,5 +1,5 @@
 -- An opening whose session is ready, against a trace and the asks of a call that go on from there.
-use Rattle.std.specs.Prelude.{◌≡◌, ℕ, false, List, [], ◌++◌, Option, Some, Ok}
+use Rattle.std.specs.Prelude.{◌≡◌, ◌≤◌, ℕ, false, List, [], ◌++◌, Option, Some, Ok}
 use Rattle.processor_core.specs.declared.request.Request.{Request}
 use Rattle.processor_core.specs.declared.response.Response.{Response}
 use Rattle.proxy_outside.specs.declared.addr.Addr.{Addr}
@@ -47,6 +47,8 @@ pub record ReadyFits (peer : Addr) (route : Route) (old new : Around) (words wor
   pub moments : outside.moments ≡ moments_in asks
   pub words_are : outside.words ≡ words_in asks
   pub asks_go_on : AsksGoOn (client_with peer route r) r outside.dials first asks
+  pub alike : r.link.tx.link ≡ r.link.rx.link
+  pub is_open : 1 ≤ new.links.live
   pub so_far : (request : Request) (response : Response) → SoFar (start_at old new) (now_at new r request response) new.links first [] [] []
 
 abbrev pub ReadysFit : Type 0
