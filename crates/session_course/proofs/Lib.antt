@@ -1,0 +1,4 @@
+pub mod Booked
+pub mod Plain
+pub mod Attempt
+pub mod Chain

@@ -1,0 +1,4 @@
+pub mod Booking
+pub mod Standing
+pub mod Following
+pub mod Course
