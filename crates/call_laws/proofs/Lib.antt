@@ -1,0 +1,10 @@
+pub mod Reasons
+pub mod Link
+pub mod Counted
+pub mod Before
+pub mod Begun
+pub mod Ended
+pub mod Hung
+pub mod Still
+pub mod Showing
+pub mod Fitting
