@@ -1,0 +1,5 @@
+pub mod Follow
+pub mod Asking
+pub mod Undo
+pub mod Rows
+pub mod Plans
