@@ -48,8 +48,8 @@ impl Model for Cutter {
     ghost view = { λ c. c.held };
 }
 
-/// What stands at the front of these bytes, and how many bytes it takes.
-pub(crate) fn next_of(alloc: Global, bytes: &[u8]) -> Result<(Next, usize), NoMemory>
+/// What stands at the front of these bytes, as a copy, and how many bytes it takes. Only a frame takes memory.
+pub fn next_of(alloc: Global, bytes: &[u8]) -> Result<(Next, usize), NoMemory>
     ensures answer { IfOk result (λ r. Answers r.0 bytes.now (drop r.1 bytes.now)) }
     ensures good { IfOk result (λ r. HasGoodFrame r.0) }
     ensures count { IfOk result (λ r. r.1 ≤ length bytes.now) }
@@ -66,8 +66,8 @@ pub(crate) fn next_of(alloc: Global, bytes: &[u8]) -> Result<(Next, usize), NoMe
     }
 }
 
-/// What stands at the front of these bytes.
-fn ahead_of(bytes: &[u8]) -> Ahead<'_>
+/// What stands at the front of these bytes, lent. It takes no memory.
+pub fn ahead_of(bytes: &[u8]) -> Ahead<'_>
     ensures { Shows result bytes.now }
 {
     match head_of(bytes) {
@@ -127,6 +127,13 @@ impl Cutter {
             }
             Head::Need | Head::BadLength(_) => None,
         }
+    }
+
+    /// Gives up what is held. It takes no memory.
+    pub fn into_bytes(self) -> Bytes
+        ensures { result ≡ self }
+    {
+        self.held.into_bytes()
     }
 
     /// How many bytes are held.

@@ -18,7 +18,7 @@ mod stream;
 mod text;
 
 pub use bytes::Bytes;
-pub use cutter::{Ahead, Cutter, Next};
+pub use cutter::{Ahead, Cutter, Next, ahead_of, next_of};
 pub use frame::{Frame, Frames, MOST_BODY, write_frame};
 pub use laws::{bad_length_stays, frames_are_the_longest};
 pub use memory::NoMemory;

@@ -120,6 +120,15 @@ impl ByteQueue {
         self.bytes.as_slice().split_at(self.start).1
     }
 
+    /// The bytes that are in it, in the memory that holds them.
+    pub(crate) fn into_bytes(self) -> Bytes
+        ensures { result ≡ self }
+    {
+        let mut bytes = self.bytes;
+        bytes.drop_front(self.start);
+        bytes
+    }
+
     pub(crate) fn allocator(&self) -> Global {
         self.bytes.allocator()
     }

@@ -27,7 +27,7 @@ nothing_cut = record { frames_are = refl; rest_is = refl; length_is = refl }
 
 -- ---- what is next
 
-whole_length : (b : List ℕ) (f : Frame) (more : List ℕ) → front b ≡ Whole f more → length b ≡ length (frame_bytes f) + length more
+pub whole_length : (b : List ℕ) (f : Frame) (more : List ℕ) → front b ≡ Whole f more → length b ≡ length (frame_bytes f) + length more
 whole_length b f more e =
     let w = whole_is b f more e in
     let r : length more ≡ length b - (length_field b + 1) = rw (← w.is_rest) (length-drop (length_field b + 1) b) in

@@ -1,3 +1,4 @@
 pub mod Streams
 pub mod Tallies
 pub mod Stands
+pub mod Intakes

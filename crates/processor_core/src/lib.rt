@@ -9,6 +9,7 @@
 //! Source: PostgreSQL manual, "Message Flow" of the frontend/backend protocol, version 3.0.
 #![tactic(auto)]
 
+mod intake;
 mod request;
 mod response;
 mod step;

@@ -3,6 +3,7 @@
 ghost use Rattle.std.specs.Prelude.{◌≡◌, ◌==◌, ℕ, Bool, true, false, List, [], ◌++◌, length, IfOk, OnOk, OnErr};
 ghost use Rattle.pgw_frames.specs.Frames.{render};
 ghost use Rattle.pgw_frames.specs.declared.frame.Frame.{Frame as Message};
+ghost use Rattle.processor_core.specs.Intakes.{Fills};
 ghost use Rattle.processor_core.specs.Streams.{StepOf, HasMessage, HasGoodFrame, handed_by, step_of_peek, LendsGood, HandsOn};
 ghost use Rattle.processor_core.specs.Tallies.{request_tally};
 ghost use Rattle.processor_core.specs.Stands.{RequestStands, RequestKeeps};
@@ -11,6 +12,7 @@ use crate::step::{Peek, Step};
 use crate::stream::Stream;
 use crate::tally::RequestTally;
 use pgw_frames::NoMemory;
+use proxy_outside::{Source, Took};
 use std::alloc::Global;
 
 /// The messages of a client, over the whole session. Contracts see what was fed, what was handed out, and
@@ -39,6 +41,17 @@ impl Request {
     {
         self.stream.feed(piece)?;
         Ok(())
+    }
+
+    /// Reads once, at most 8,192 bytes, and takes them as further bytes, also while suspended. A want of memory is
+    /// answered before anything is read, and changes nothing.
+    pub fn fill<S: Source>(&mut self, source: &mut S) -> Result<Took, NoMemory>
+        ensures ok { IfOk result (λ t. Fills RequestStands self.old self.new t (S.origin source.old) (S.origin source.new)) }
+        ensures err { OnErr result (RequestKeeps self.old self.new) }
+        ensures unread { OnErr result (source.new ≡ source.old) }
+    {
+        let took = self.stream.fill(source)?;
+        Ok(took)
     }
 
     /// Hands out and counts the next message. Only a message takes memory; an `Err` changes nothing.

@@ -3,16 +3,19 @@
 ghost use Rattle.std.specs.Prelude.{◌≡◌, ◌==◌, ℕ, Bool, true, false, List, [], ◌++◌, length, IfOk, OnOk, OnErr};
 ghost use Rattle.pgw_frames.specs.Frames.{render};
 ghost use Rattle.pgw_frames.specs.declared.frame.Frame.{Frame as Message};
+ghost use Rattle.processor_core.specs.Intakes.{Fills};
 ghost use Rattle.processor_core.specs.Streams.{StreamStands, StreamKeeps, StepOf, HasMessage, HasGoodFrame, handed_by, step_of_peek, LendsGood, HandsOn, TellsTag};
 
+use crate::intake::Intake;
 use crate::step::{Peek, Step, step_of};
 use pgw_frames::{Ahead, Cutter, NoMemory};
+use proxy_outside::{Source, Took};
 use std::alloc::Global;
 
 /// A stream, and whether it is suspended.
 #[derive(Debug, Drop)]
 pub(crate) struct Stream {
-    cutter: Cutter,
+    cutter: Intake,
     suspended: bool,
 }
 
@@ -22,7 +25,7 @@ impl Stream {
         ensures { StreamStands result [] [] false }
     {
         Stream {
-            cutter: Cutter::new(alloc),
+            cutter: Intake::new(alloc),
             suspended: false,
         }
     }
@@ -32,7 +35,7 @@ impl Stream {
         ensures { StreamStands result cutter [] false }
     {
         Stream {
-            cutter,
+            cutter: Intake::behind(cutter),
             suspended: false,
         }
     }
@@ -44,6 +47,16 @@ impl Stream {
     {
         self.cutter.feed(piece)?;
         Ok(())
+    }
+
+    /// The stream goes on with what a read gives. A want of memory is answered before anything is read.
+    pub fn fill<S: Source>(&mut self, source: &mut S) -> Result<Took, NoMemory>
+        ensures ok { IfOk result (λ t. Fills StreamStands self.old self.new t (S.origin source.old) (S.origin source.new)) }
+        ensures err { OnErr result (StreamKeeps self.old self.new) }
+        ensures unread { OnErr result (source.new ≡ source.old) }
+    {
+        let took = self.cutter.read(source)?;
+        Ok(took)
     }
 
     /// Hands out what is next. An `Err` changes nothing.

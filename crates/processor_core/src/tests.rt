@@ -1,5 +1,6 @@
 use super::*;
-use pgw_frames::NoMemory;
+use pgw_frames::{Cutter, NoMemory};
+use proxy_outside::{MemSource, Took};
 use std::test::*;
 
 /// A step as it is told here: what it is, and its number.
@@ -62,6 +63,36 @@ fn a_client_in_pieces(rt: HostRuntime) -> Result<(), NoMemory> {
         assert_eq!(rt; told(&request.next()?), want);
     }
     assert_eq!(rt; told(&request.next()?), ("need", 0));
+    Ok(())
+}
+
+#[test]
+fn messages_that_are_read(rt: HostRuntime) -> Result<(), NoMemory> {
+    let mut request = Request::new(rt.alloc());
+    let mut client = MemSource::make(rt.alloc(), b"Q\0\0\0\x061\0S\0", 7, &[2], &[4])?;
+    let rows = [
+        (Took::Got(7), ("frame", 81)),
+        (Took::Idle, ("need", 0)),
+        (Took::Got(2), ("need", 0)),
+        (Took::Failed, ("need", 0)),
+        (Took::End, ("need", 0)),
+    ];
+    for (took, step) in rows {
+        assert_eq!(rt; request.fill(&mut client)?, took);
+        assert_eq!(rt; told(&request.next()?), step);
+    }
+    Ok(())
+}
+
+#[test]
+fn a_pod_that_is_read_behind_its_greeting(rt: HostRuntime) -> Result<(), NoMemory> {
+    let mut cutter = Cutter::new(rt.alloc());
+    cutter.feed(b"R\0\0\0\x04Z\0")?;
+    let _greeting = cutter.next()?;
+    let mut response = Response::behind(cutter);
+    let mut pod = MemSource::make(rt.alloc(), b"\0\0\x05I", 4, &[], &[])?;
+    assert_eq!(rt; response.fill(&mut pod)?, Took::Got(4));
+    assert_eq!(rt; told(&response.next()?), ("frame", 90));
     Ok(())
 }
 

@@ -2,8 +2,9 @@
 //!
 //! A leg owns its halves and gives them back. It hands a message on once it holds it whole, and then looks
 //! at the board; where nothing came it looks only between two messages. It reads at most 8,192 bytes at
-//! once, and only where it holds no whole message. A message goes on as it stands in what is held, in one write
-//! where the sink takes as much: only what was read and not yet handed on takes memory.
+//! once, straight behind what it holds, and only where it holds no whole message. A message goes on as it stands in
+//! what is held, in one write where the sink takes as much: only what was read and not yet handed on takes memory,
+//! and the room for one read.
 //!
 //! No contract says that both legs run at once, that a leg ends, or what it tells the board at its end.
 //!
