@@ -17,3 +17,4 @@ pub mod Taken
 pub mod PlacesLemmas
 pub mod Written
 pub mod ViewLemmas
+pub mod Packets

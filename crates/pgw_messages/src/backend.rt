@@ -12,7 +12,7 @@ mod status;
 mod writing;
 
 pub use auth::AuthMsg;
-pub use columns::{Column, Columns};
+pub use columns::{Column, Columns, columns_frame};
 pub use copy::CopyMsg;
 pub use fields::{Field, Fields};
 pub use message::BackMsg;

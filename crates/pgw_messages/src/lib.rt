@@ -33,8 +33,8 @@ mod view;
 mod writer;
 
 pub use backend::{
-    AuthMsg, BackMsg, Column, Columns, CopyMsg, Field, Fields, NotifyMsg, read_back, row_frame,
-    write_back,
+    AuthMsg, BackMsg, Column, Columns, CopyMsg, Field, Fields, NotifyMsg, columns_frame, read_back,
+    row_frame, write_back,
 };
 pub use fault::MsgFault;
 pub use frontend::{BindMsg, ExecuteMsg, FrontMsg, ParseMsg, Part, read_front, write_front};
@@ -43,7 +43,7 @@ pub use laws::{messages_are_read_again, messages_can_be_written, params_are_read
 pub use numbers::{Formats, Types};
 pub use params::{Pair, Params};
 pub use pod_key::PodKey;
-pub use startup::{read_params, startup_bytes};
+pub use startup::{read_params, startup_bytes, startup_bytes_with};
 pub use values::Row;
 pub use view::{ColumnView, ColumnsView, FieldsView, OwnedFields, RowView};
 

@@ -2,10 +2,14 @@
 
 ghost use Rattle.std.specs.Prelude.{◌≡◌, ◌≤◌, [], ◌∷◌, ◌++◌, length, map, Some, IfOk, OnOk};
 ghost use Rattle.std.specs.Int.{w16, w32, to_be_bytes};
+ghost use Rattle.pgw_messages.specs.Backend.{column_bytes};
+ghost use Rattle.pgw_messages.specs.ColumnViews.{column_of};
+ghost use Rattle.pgw_messages.specs.Startup.{pair_bytes};
 ghost use Rattle.pgw_messages.specs.Spelling.{text_bytes, signed_bytes, value_bytes, list_bytes, HasNoZero, FitsValue, IsText, IsValue, IsList};
 
 use crate::item::Item;
 use crate::items::Items;
+use crate::view::ColumnView;
 use pgw_frames::{Bytes, NoMemory, Text};
 use std::alloc::Global;
 use std::marker::Model;
@@ -54,7 +58,14 @@ impl Writer {
     pub(crate) fn new(alloc: Global) -> Result<Writer, NoMemory>
         ensures { IfOk result (λ w. w ≡ []) }
     {
-        let out = Vec::with_capacity(alloc, FIRST_ROOM)?;
+        Writer::with_room(alloc, FIRST_ROOM)
+    }
+
+    /// One that needs no further memory for so many bytes.
+    pub(crate) fn with_room(alloc: Global, room: usize) -> Result<Writer, NoMemory>
+        ensures { IfOk result (λ w. w ≡ []) }
+    {
+        let out = Vec::with_capacity(alloc, room)?;
         Ok(Writer {
             out: Bytes::from_vec(out),
         })
@@ -110,6 +121,49 @@ impl Writer {
     {
         self.bytes(t.as_str().as_bytes())?;
         self.u8(0)?;
+        Ok(())
+    }
+
+    /// A text that is lent, and its zero byte.
+    fn lent_text(&mut self, t: &str) -> Result<(), NoMemory>
+        ensures { OnOk result (self.new ≡ self.old ++ text_bytes t.now) }
+    {
+        self.bytes(t.as_bytes())?;
+        self.u8(0)?;
+        Ok(())
+    }
+
+    /// A name and a value that are lent, each with its zero byte.
+    pub(crate) fn pair(&mut self, name: &str, value: &str) -> Result<(), NoMemory>
+        ensures { OnOk result (self.new ≡ self.old ++ pair_bytes (record { name = name.now; value = value.now })) }
+    {
+        self.lent_text(name)?;
+        self.lent_text(value)?;
+        Ok(())
+    }
+
+    /// A column whose name is lent.
+    fn column(&mut self, column: &ColumnView<'_>) -> Result<(), NoMemory>
+        ensures { OnOk result (self.new ≡ self.old ++ column_bytes (column_of column.now)) }
+    {
+        self.lent_text(column.name)?;
+        self.u32(column.table)?;
+        self.u16(column.column)?;
+        self.u32(column.kind)?;
+        self.i16(column.size)?;
+        self.i32(column.modifier)?;
+        self.u16(column.format)?;
+        Ok(())
+    }
+
+    /// The count of columns whose names are lent, by its low 16 bits, and the columns.
+    pub(crate) fn columns(&mut self, columns: &[ColumnView<'_>]) -> Result<(), NoMemory>
+        ensures { OnOk result (self.new ≡ self.old ++ list_bytes column_bytes (map column_of columns.now)) }
+    {
+        self.u16(count_field(columns.len()))?;
+        for column in columns {
+            self.column(column)?;
+        }
         Ok(())
     }
 

@@ -17,11 +17,13 @@ mod texts;
 mod transfer;
 
 pub use pod_session::PodSession;
+pub use result_set::{BOOLEAN, ColumnType, TEXT, column, complete, ready, row};
 pub use session::Session;
 pub use shared_store::{SharedStore, answer_of};
 pub use solo::Solo;
 pub use texts::{
-    digits_reply, key_text, restore_reply, restore_text, transfer_reply, transfer_text,
+    digits_reply, digits_row, key_text, restore_columns, restore_reply, restore_row, restore_tag,
+    restore_text, transfer_columns, transfer_reply, transfer_tag, transfer_text,
 };
 pub use transfer::{Dump, TransferKey};
 

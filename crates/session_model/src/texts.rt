@@ -4,11 +4,11 @@ ghost use Rattle.std.specs.Prelude.{◌≡◌, string_bytes, IfOk};
 ghost use Rattle.session_model.specs.Texts.{key_digits};
 ghost use Rattle.session_model.specs.Texts as text;
 
-use crate::result_set::{BOOLEAN, TEXT, column, complete, ready, row};
+use crate::result_set::{BOOLEAN, TEXT, complete, lent_column, ready, row};
 use crate::transfer::{Dump, TransferKey};
 use base64::engine::general_purpose::STANDARD;
 use pgw_frames::{Frame, Frames, NoMemory, Text};
-use pgw_messages::{BackMsg, Columns};
+use pgw_messages::columns_frame;
 use std::alloc::Global;
 
 /// How many bytes a transfer Query's text takes, and a zero byte behind it.
@@ -48,20 +48,21 @@ pub fn restore_text(alloc: Global, blob: &[u8]) -> Result<Text, NoMemory>
 
 /// The columns of the reply to a transfer Query.
 #[tactic(auto, unfolding(crate::specs::Texts::transfer_columns))]
-fn transfer_columns(alloc: Global) -> Result<Frame, NoMemory>
+pub fn transfer_columns(alloc: Global) -> Result<Frame, NoMemory>
     ensures { IfOk result (λ f. f ≡ text.transfer_columns) }
 {
-    let mut columns = Columns::new(alloc);
-    columns.push(column(alloc, "error", TEXT)?)?;
-    columns.push(column(alloc, "session_state_base64", TEXT)?)?;
-    columns.push(column(alloc, "session_revival_token_base64", TEXT)?)?;
-    columns.push(column(alloc, "transfer_key", TEXT)?)?;
-    BackMsg::Columns(columns).into_frame(alloc)
+    let columns = [
+        lent_column("error", TEXT),
+        lent_column("session_state_base64", TEXT),
+        lent_column("session_revival_token_base64", TEXT),
+        lent_column("transfer_key", TEXT),
+    ];
+    columns_frame(alloc, &columns)
 }
 
 /// The row of the reply to a transfer Query: what was dumped, and the digits of the key.
 #[tactic(auto, unfolding(crate::specs::Texts::digits_row))]
-fn digits_row(alloc: Global, digits: &[u8], d: &Dump, token: &str) -> Result<Frame, NoMemory>
+pub fn digits_row(alloc: Global, digits: &[u8], d: &Dump, token: &str) -> Result<Frame, NoMemory>
     ensures { IfOk result (λ f. f ≡ text.digits_row digits.now d.now token.now) }
 {
     match d {
@@ -73,8 +74,15 @@ fn digits_row(alloc: Global, digits: &[u8], d: &Dump, token: &str) -> Result<Fra
     }
 }
 
-/// The reply to a transfer Query whose key has these digits.
+/// The end of a transfer Query's reply.
 #[tactic(auto, unfolding(crate::specs::Texts::transfer_tag))]
+pub fn transfer_tag(alloc: Global) -> Result<Frame, NoMemory>
+    ensures { IfOk result (λ f. f ≡ text.transfer_tag) }
+{
+    complete(alloc, "SHOW TRANSFER STATE 1")
+}
+
+/// The reply to a transfer Query whose key has these digits.
 pub fn digits_reply(
     alloc: Global,
     digits: &[u8],
@@ -86,7 +94,7 @@ pub fn digits_reply(
 {
     let columns = transfer_columns(alloc)?;
     let row = digits_row(alloc, digits, d, token)?;
-    let tag = complete(alloc, "SHOW TRANSFER STATE 1")?;
+    let tag = transfer_tag(alloc)?;
     let ready = ready(alloc, status)?;
     Ok(Frames::from_vec(vec![in alloc; columns, row, tag, ready]?))
 }
@@ -107,22 +115,36 @@ pub fn transfer_reply(
 
 /// The column of the reply to a restore Query.
 #[tactic(auto, unfolding(crate::specs::Texts::restore_columns))]
-fn restore_columns(alloc: Global) -> Result<Frame, NoMemory>
+pub fn restore_columns(alloc: Global) -> Result<Frame, NoMemory>
     ensures { IfOk result (λ f. f ≡ text.restore_columns) }
 {
-    let mut columns = Columns::new(alloc);
-    columns.push(column(alloc, "crdb_internal.deserialize_session", BOOLEAN)?)?;
-    BackMsg::Columns(columns).into_frame(alloc)
+    let column = lent_column("crdb_internal.deserialize_session", BOOLEAN);
+    columns_frame(alloc, &[column])
+}
+
+/// The row of the reply to a restore Query.
+#[tactic(auto, unfolding(crate::specs::Texts::restore_row))]
+pub fn restore_row(alloc: Global) -> Result<Frame, NoMemory>
+    ensures { IfOk result (λ f. f ≡ text.restore_row) }
+{
+    row(alloc, &[b"t"])
+}
+
+/// The end of a restore Query's reply.
+#[tactic(auto, unfolding(crate::specs::Texts::restore_tag))]
+pub fn restore_tag(alloc: Global) -> Result<Frame, NoMemory>
+    ensures { IfOk result (λ f. f ≡ text.restore_tag) }
+{
+    complete(alloc, "SELECT 1")
 }
 
 /// The reply to a restore Query.
-#[tactic(auto, unfolding(crate::specs::Texts::restore_row, crate::specs::Texts::restore_tag))]
 pub fn restore_reply(alloc: Global) -> Result<Frames, NoMemory>
     ensures { IfOk result (λ fs. fs ≡ text.restore_reply) }
 {
     let columns = restore_columns(alloc)?;
-    let row = row(alloc, &[b"t"])?;
-    let tag = complete(alloc, "SELECT 1")?;
+    let row = restore_row(alloc)?;
+    let tag = restore_tag(alloc)?;
     let ready = ready(alloc, b'I')?;
     Ok(Frames::from_vec(vec![in alloc; columns, row, tag, ready]?))
 }

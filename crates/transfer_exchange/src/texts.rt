@@ -7,7 +7,7 @@ ghost use Rattle.session_model.specs.Texts as text;
 ghost use Rattle.transfer_stages.specs.Exchange.{packet};
 
 use pgw_frames::{Bytes, NoMemory, Text, write_frame};
-use pgw_messages::{FrontMsg, Params, startup_bytes};
+use pgw_messages::{FrontMsg, Params, startup_bytes_with};
 use std::alloc::Global;
 
 /// The parameter in which a startup packet carries a revival token.
@@ -34,9 +34,7 @@ pub(crate) fn packet(alloc: Global, params: &Params, token: &str) -> Result<Byte
     requires new { value_of (codes "crdb:session_revival_token_base64") params.now ≡ None }
     ensures { IfOk result (λ b. b ≡ packet params.now token.now) }
 {
-    let mut all = params.copy()?;
-    all.put(TOKEN_NAME, token)?;
-    startup_bytes(alloc, &all)
+    startup_bytes_with(alloc, params, TOKEN_NAME, token)
 }
 
 /// What is left of so much room behind a name and a value.

@@ -1,14 +1,20 @@
 //! RowDescription.
 
-ghost use Rattle.pgw_messages.specs.Backend.{column_at, column_bytes, IsColumn};
+ghost use Rattle.std.specs.Prelude.{◌≡◌, map, IfOk};
+ghost use Rattle.pgw_messages.specs.Backend.{column_at, column_bytes, IsColumn, back_frame};
+ghost use Rattle.pgw_messages.specs.ColumnViews.{column_of};
 ghost use Rattle.pgw_messages.specs.Spelling.{HasNoZero};
+ghost use Rattle.pgw_messages.specs.declared.backend.message.BackMsg.TheVariants as back;
 
 use crate::fault::MsgFault;
 use crate::item::Item;
 use crate::items::Items;
 use crate::reader::Reader;
+use crate::tags;
+use crate::view::ColumnView;
 use crate::writer::Writer;
-use pgw_frames::{NoMemory, Text};
+use pgw_frames::{Frame, NoMemory, Text};
+use std::alloc::Global;
 
 /// A column of a result.
 #[derive(Debug, Drop)]
@@ -67,4 +73,25 @@ impl Item for Column {
         w.u16(self.format)?;
         Ok(())
     }
+}
+
+/// How many bytes these columns take with their count, or the most that a number can say.
+fn columns_room(columns: &[ColumnView<'_>]) -> usize {
+    let mut room = 2_usize;
+    for column in columns {
+        room = room.saturating_add(column.name.len()).saturating_add(19);
+    }
+    room
+}
+
+/// The frame of a RowDescription of these columns. Each name is copied once, into the frame.
+pub fn columns_frame(alloc: Global, columns: &[ColumnView<'_>]) -> Result<Frame, NoMemory>
+    ensures { IfOk result (λ f. f ≡ back_frame (back.Columns (map column_of columns.now))) }
+{
+    let mut body = Writer::with_room(alloc, columns_room(columns))?;
+    body.columns(columns)?;
+    Ok(Frame {
+        tag: tags::ROW_DESCRIPTION,
+        body: body.into_bytes(),
+    })
 }

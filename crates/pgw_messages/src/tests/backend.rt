@@ -1,5 +1,7 @@
 use super::{Side, expect_counts, expect_faults, expect_whole, goes_out};
-use crate::{BackMsg, Column, Field, Items, MsgFault, read_back, write_back};
+use crate::{
+    BackMsg, Column, ColumnView, Field, Items, MsgFault, columns_frame, read_back, write_back,
+};
 use pgw_frames::{Bytes, Frame, NoMemory, Text};
 use std::alloc::Global;
 use std::test::*;
@@ -181,6 +183,22 @@ fn a_text_column_has_no_size(rt: HostRuntime) -> Result<(), MsgFault> {
     assert_eq!(rt; column, Some((25, -1, -1)));
     drop(message);
     Ok(())
+}
+
+#[test]
+fn columns_on_the_wire(rt: HostRuntime) {
+    let column = ColumnView {
+        name: "n",
+        table: 1,
+        column: 2,
+        kind: 25,
+        size: -1,
+        modifier: -1,
+        format: 0,
+    };
+    let frame = columns_frame(rt.alloc(), &[column]);
+    let want = b"T\0\0\0\x1a\0\x01n\0\0\0\0\x01\0\x02\0\0\0\x19\xff\xff\xff\xff\xff\xff\0\0";
+    assert_eq!(rt; goes_out(rt.alloc(), frame, want), Ok(true));
 }
 
 /// Whether an error has this field at this place.

@@ -1,4 +1,4 @@
-use Rattle.std.proofs.Common.{◌≡◌, List, Option, ℕ, subst, IfOk, map, Some, Bor, sym}
+use Rattle.std.proofs.Common.{◌≡◌, List, Option, ℕ, subst, IfOk, Some, Bor, sym}
 use Rattle.std.proofs.lemmas.Simd.{map-map}
 use Rattle.pgw_messages.specs.Backend.{back_frame}
 use Rattle.pgw_messages.specs.declared.backend.message.BackMsg.TheVariants as back
