@@ -25,7 +25,7 @@ use Rattle.mini_kind.proofs.Lists.{IfFound, all_filter, all_join, all_put_portal
 use Rattle.mini_kind.proofs.Shorter.{list_by, short_first, short_number16, short_text, short_value, value_size, whole_is}
 use Rattle.mini_kind.specs.Extended.{and_more, binds, bound, closes, describes, executes, extended, has_binary, is_null, is_statement, is_unnamed, on_empty, on_read, on_some, parsed, parses, pick, pick_each, picked, says_columns, tells_columns, texts_of, types_told, with_prepared}
 use Rattle.mini_kind.specs.Fits.{ColumnFits, FilterFits, MiniKept, ParamFits, PortalFits, PreparedFits, StmtFits, TextFits, ValueFits}
-use Rattle.mini_kind.specs.Mini.{Mini, Portal, Turn, dropped, find_portal, find_prepared, is_portal, is_prepared_as, without_portal, without_prepared}
+use Rattle.mini_kind.specs.Mini.{Mini, Portal, Turn, dropped, find_portal, is_portal, without_portal}
 use Rattle.mini_kind.specs.Operating.{see_shape}
 use Rattle.mini_kind.specs.Parameters.{filter_params, params_in, stmt_in, value_params, values_params}
 use Rattle.mini_kind.specs.Plans.{Gives, Now, Outcome, Plan, refuse}
@@ -34,7 +34,7 @@ use Rattle.mini_kind.specs.Running.{attempts, text_columns}
 use Rattle.mini_store.specs.declared.code.SqlCode.{SqlCode}
 use Rattle.pgw_messages.specs.Backend.{back_frame}
 use Rattle.session_blob.specs.Entries.{is_among, prepared_names}
-use Rattle.session_blob.specs.Prepared.{Prepared}
+use Rattle.session_blob.specs.Prepared.{Prepared, find_prepared, is_prepared_as, without_prepared}
 use Rattle.sql_text.specs.declared.stmt.ColumnDef.{ColumnDef}
 use Rattle.sql_text.specs.declared.stmt.Equal.{Equal}
 use Rattle.sql_text.specs.declared.stmt.Stmt.{Stmt}

@@ -9,9 +9,9 @@ use Rattle.std.specs.Str.{bytes_eq}
 use Rattle.pgw_messages.specs.Params.{is_named, put_all, value_of, with_value}
 use Rattle.pgw_messages.specs.declared.params.Pair.{Pair}
 use Rattle.mini_kind.specs.Fits.{PortalFits, PreparedFits, TextFits, VariableFits}
-use Rattle.mini_kind.specs.Mini.{Portal, find_portal, find_prepared, is_portal, is_prepared_as, put_portal}
+use Rattle.mini_kind.specs.Mini.{Portal, find_portal, is_portal, put_portal}
 use Rattle.mini_kind.specs.Running.{param_text}
-use Rattle.session_blob.specs.Prepared.{Prepared, with_statement}
+use Rattle.session_blob.specs.Prepared.{Prepared, with_statement, find_prepared, is_prepared_as}
 
 pub all_filter : {A : Type 0} (P : A → Type 0) (p : A → Bool) (xs : List A) → AllByRecursion P xs → AllByRecursion P (filter p xs)
 all_filter P p [] h = tt

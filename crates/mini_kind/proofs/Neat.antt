@@ -20,7 +20,7 @@ use Rattle.mini_kind.proofs.Plain.{Always, readies-append, readies-rows}
 use Rattle.mini_kind.specs.Copies.{copied_rows, copies_in, copy_ends}
 use Rattle.mini_kind.specs.Dumps.{dump_of}
 use Rattle.mini_kind.specs.Extended.{binds, bound, closes, describes, executes, extended, has_binary, is_null, is_statement, is_unnamed, on_empty, on_read, on_some, parsed, parses, picked, says_columns, tells_columns, texts_of, types_told, with_prepared}
-use Rattle.mini_kind.specs.Mini.{CopyTo, Copying, Mini, Mode, Portal, Turn, find_portal, find_prepared, has_failed, in_turn, without_portal, without_prepared}
+use Rattle.mini_kind.specs.Mini.{CopyTo, Copying, Mini, Mode, Portal, Turn, find_portal, has_failed, in_turn, without_portal}
 use Rattle.mini_kind.specs.Operating.{added, came, is_full, operates, operates_in, refusal, see_count, see_made, see_rows, see_shape, took}
 use Rattle.mini_kind.specs.Parameters.{params_in, stmt_in}
 use Rattle.mini_kind.specs.Plans.{Asks, Gives, Now, Outcome, Plan, Refuses, refuse}
@@ -31,7 +31,7 @@ use Rattle.mini_store.specs.declared.code.SqlCode.{SqlCode}
 use Rattle.mini_store.specs.declared.op.Op.{Op}
 use Rattle.pgw_messages.specs.Backend.{back_frame}
 use Rattle.session_blob.specs.Entries.{is_among, prepared_names}
-use Rattle.session_blob.specs.Prepared.{Prepared}
+use Rattle.session_blob.specs.Prepared.{Prepared, find_prepared, without_prepared}
 use Rattle.session_blob.specs.declared.fault.BlobFault.{BlobFault}
 use Rattle.session_blob.specs.declared.state.State.{State}
 use Rattle.sql_text.specs.declared.stmt.ColumnDef.{ColumnDef}

@@ -22,8 +22,8 @@ use Rattle.mini_store.specs.declared.code.SqlCode.{SqlCode}
 use Rattle.mini_store.specs.declared.code.SqlCode.TheVariants as code
 use Rattle.mini_store.specs.declared.op.Op.TheVariants as op
 use Rattle.session_blob.specs.Entries.{is_among, prepared_names}
-use Rattle.session_blob.specs.Prepared.{Prepared, with_statement}
-use Rattle.mini_kind.specs.Mini.{Mini, Portal, find_prepared, without_prepared, put_portal, find_portal, without_portal}
+use Rattle.session_blob.specs.Prepared.{Prepared, with_statement, find_prepared, without_prepared}
+use Rattle.mini_kind.specs.Mini.{Mini, Portal, put_portal, find_portal, without_portal}
 use Rattle.mini_kind.specs.Operating.{operates, see_shape}
 use Rattle.mini_kind.specs.Parameters.{params_in, stmt_in}
 use Rattle.mini_kind.specs.Plans.{Plan, Now, Outcome, Gives, Refuses, gives_one, refuse}

@@ -7,7 +7,7 @@ use Rattle.pgw_messages.specs.declared.params.Pair.{Pair}
 use Rattle.pgw_messages.specs.Params.{value_of, put_all, is_named}
 use Rattle.sql_text.specs.declared.stmt.Stmt.{Stmt}
 use Rattle.mini_store.specs.declared.answer.PastStep.{PastStep}
-use Rattle.session_blob.specs.Prepared.{Prepared}
+use Rattle.session_blob.specs.Prepared.{Prepared, without_prepared}
 
 -- a statement with the texts of its parameters, under a name
 pub record Portal : Type 0 where
@@ -102,17 +102,7 @@ abbrev pub failing : Option Turn → Option Turn
 failing None = None
 failing (Some t) = Some (record { past = t.past; failed = true })
 
--- ---- statements and portals by their names
-
-abbrev pub is_prepared_as : List ℕ → Prepared → Bool
-is_prepared_as n x = bytes_eq x.name n
-
-abbrev pub find_prepared : List ℕ → List Prepared → Option Prepared
-find_prepared n [] = None
-find_prepared n (x ∷ xs) = if is_prepared_as n x then Some x else find_prepared n xs
-
-abbrev pub without_prepared : List ℕ → List Prepared → List Prepared
-without_prepared n xs = filter (λ x. not (is_prepared_as n x)) xs
+-- ---- portals by their names
 
 abbrev pub is_portal : List ℕ → Portal → Bool
 is_portal n p = bytes_eq p.name n

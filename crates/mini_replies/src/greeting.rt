@@ -5,9 +5,9 @@ ghost use Rattle.pgw_messages.specs.Backend.{back_frame};
 ghost use Rattle.pgw_messages.specs.declared.backend.message.BackMsg.TheVariants as back;
 ghost use Rattle.mini_kind.specs.Replies as reply;
 
-use crate::markers::ready;
 use pgw_frames::{Bytes, Frame, Frames, NoMemory, Text};
 use pgw_messages::{AuthMsg, BackMsg, Pair, PodKey};
+use session_model::ready;
 use std::alloc::Global;
 
 /// An AuthenticationOk.

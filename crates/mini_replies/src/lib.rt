@@ -14,8 +14,8 @@ mod results;
 
 pub use errors::error;
 pub use greeting::greets;
-pub use markers::{bind_complete, close_complete, empty_query, no_rows, parse_complete, ready};
-pub use results::{complete, copy_in, counted, data_row, one_value, param_types, row_columns};
+pub use markers::{bind_complete, close_complete, empty_query, no_rows, parse_complete};
+pub use results::{copy_in, counted, data_row, one_value, param_types, row_columns};
 
 #[cfg(test)]
 mod tests;

@@ -3,19 +3,11 @@
 ghost use Rattle.std.specs.Prelude.{◌≡◌, IfOk};
 ghost use Rattle.pgw_messages.specs.Backend.{back_frame};
 ghost use Rattle.pgw_messages.specs.declared.backend.message.BackMsg.TheVariants as back;
-ghost use Rattle.session_model.specs.Texts as text;
 ghost use Rattle.mini_kind.specs.Replies as reply;
 
 use pgw_frames::{Frame, NoMemory};
 use pgw_messages::BackMsg;
 use std::alloc::Global;
-
-/// A ReadyForQuery. The status is `I` outside a transaction, `T` inside one, `E` in a failed one.
-pub fn ready(alloc: Global, status: u8) -> Result<Frame, NoMemory>
-    ensures { IfOk result (λ f. f ≡ text.ready status) }
-{
-    BackMsg::Ready(status).into_frame(alloc)
-}
 
 /// A ParseComplete.
 pub fn parse_complete(alloc: Global) -> Result<Frame, NoMemory>

@@ -9,41 +9,14 @@ use itoa::Buffer;
 use mini_store::Datum;
 use pgw_frames::{Bytes, Frame, NoMemory, Text};
 use pgw_messages::{BackMsg, Column, Columns, CopyMsg, Formats, Items, Types};
+use session_model::{ColumnType, TEXT, column, row};
 use sql_text::{ColumnDef, Kind};
 use std::alloc::Global;
-
-/// A type's number and its size in bytes, as RowDescription has them. The size is negative where
-/// values have no one size.
-#[derive(Clone, Copy)]
-struct ColumnType {
-    number: u32,
-    size: i16,
-}
 
 const INT: ColumnType = ColumnType {
     number: 20,
     size: 8,
 };
-
-const TEXT: ColumnType = ColumnType {
-    number: 25,
-    size: -1,
-};
-
-/// A column of no table, in text.
-fn column(alloc: Global, name: &str, of: ColumnType) -> Result<Column, NoMemory>
-    ensures { IfOk result (λ c. c ≡ text.column name.now of.number of.size) }
-{
-    Ok(Column {
-        name: Text::of(alloc, name)?,
-        table: 0,
-        column: 0,
-        kind: of.number,
-        size: of.size,
-        modifier: -1,
-        format: 0,
-    })
-}
 
 fn column_of(alloc: Global, def: &ColumnDef) -> Result<Column, NoMemory>
     ensures { IfOk result (λ c. c ≡ reply.column_of def.now) }
@@ -97,15 +70,7 @@ pub fn data_row(alloc: Global, values: &[Datum]) -> Result<Frame, NoMemory>
 pub fn one_value(alloc: Global, value: &str) -> Result<Frame, NoMemory>
     ensures { IfOk result (λ f. f ≡ text.row (value.now ∷ [])) }
 {
-    let value = Bytes::of(alloc, value.as_bytes())?;
-    BackMsg::Row(Items::from_vec(vec![in alloc; Some(value)]?)).into_frame(alloc)
-}
-
-/// A CommandComplete with this tag.
-pub fn complete(alloc: Global, tag: &str) -> Result<Frame, NoMemory>
-    ensures { IfOk result (λ f. f ≡ text.complete tag.now) }
-{
-    BackMsg::Complete(Text::of(alloc, tag)?).into_frame(alloc)
+    row(alloc, &[value.as_bytes()])
 }
 
 /// A CommandComplete whose tag ends in a count.

@@ -1,6 +1,7 @@
 use super::*;
 use mini_store::{Datum, SqlCode};
 use pgw_frames::{Bytes, Frame, MOST_BODY, NoMemory, Text, write_frame};
+use session_model::{complete, ready};
 use sql_text::{ColumnDef, Kind};
 use std::alloc::Global;
 use std::test::*;

@@ -1,5 +1,6 @@
 pub mod Added
 pub mod Again
+pub mod ByName
 pub mod Entries
 pub mod Loops
 pub mod Sound

@@ -14,6 +14,9 @@ use Rattle.session_blob.specs.declared.fault.BlobFault.TheVariants.{TooLarge}
 abbrev pub most_blob : ℕ
 most_blob = 1048576
 
+abbrev pub with_statements : State → List Prepared → State
+with_statements s xs = record { user = s.user; database = s.database; variables = s.variables; statements = xs }
+
 -- ---- the bytes
 
 abbrev pub sized : List ℕ → List ℕ

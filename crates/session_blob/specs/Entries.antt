@@ -11,8 +11,12 @@ use Rattle.session_blob.specs.declared.statements.Query.{Query}
 abbrev pub pairs_of : List (String Global × String Global) → List Pair
 pairs_of es = map (λ e. record { name = string_bytes e.0; value = string_bytes e.1 }) es
 
+-- a query under a name
+abbrev pub prepared : List ℕ → Query → Prepared
+prepared n q = record { name = n; query = q.query; types = q.types }
+
 abbrev pub prepared_of : List (String Global × Query) → List Prepared
-prepared_of es = map (λ e. record { name = string_bytes e.0; query = e.1.query; types = e.1.types }) es
+prepared_of es = map (λ e. prepared (string_bytes e.0) e.1) es
 
 abbrev pub variable_names : List Pair → List (List ℕ)
 variable_names qs = map (λ q. q.name) qs

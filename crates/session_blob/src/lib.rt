@@ -17,7 +17,7 @@ mod variables;
 mod writing;
 
 pub use decoding::decode;
-pub use encoding::encode;
+pub use encoding::{encode, encode_with};
 pub use fault::BlobFault;
 pub use laws::a_state_has_one_spelling;
 pub use state::{MOST_BLOB, State};

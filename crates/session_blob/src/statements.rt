@@ -1,10 +1,11 @@
 //! A session's prepared statements.
 
-ghost use Rattle.std.specs.Prelude.{◌≡◌, [], length, OnOk, OnErr};
+ghost use Rattle.std.specs.Prelude.{◌≡◌, [], length, slice_get, OnOk, OnErr};
 ghost use Rattle.std.specs.List.{IsDistinct};
+ghost use Rattle.std.specs.Option.{option_map};
 ghost use Rattle.std.specs.Str.{bytes_eq};
-ghost use Rattle.session_blob.specs.Entries.{is_among, prepared_names};
-ghost use Rattle.session_blob.specs.Prepared.{with_statement};
+ghost use Rattle.session_blob.specs.Entries.{is_among, prepared, prepared_names};
+ghost use Rattle.session_blob.specs.Prepared.{find_prepared, with_statement, without_prepared};
 
 use crate::types::TypeNumbers;
 use indexmap::IndexMap;
@@ -67,6 +68,29 @@ impl Statements {
         let name = String::from_str(self.alloc, name)?;
         self.map.insert(name, query)?;
         Ok(())
+    }
+
+    /// The statement of this name.
+    pub fn get(&self, name: &str) -> Option<&Query>
+        ensures { option_map (λ q. prepared name.now q.now) result ≡ find_prepared name.now self.now }
+    {
+        self.map.get(name)
+    }
+
+    /// The statement at this place, with its name. Places count from 0.
+    pub fn at(&self, place: usize) -> Option<(&str, &Query)>
+        ensures { option_map (λ x. prepared x.0.now x.1.now) result ≡ slice_get self.now place }
+    {
+        let (name, query) = self.map.get_index(place)?;
+        Some((name.as_str(), query))
+    }
+
+    /// Removes the statement of this name, where there is one. The others keep their order.
+    pub fn remove(&mut self, name: &str)
+        ensures { self.new ≡ without_prepared name.now self.old }
+    {
+        let removed = self.map.shift_remove(name);
+        drop(removed);
     }
 
     /// Whether a statement has this name.

@@ -18,6 +18,12 @@ fn fault_of(alloc: Global, blob: &[u8]) -> Option<BlobFault> {
     }
 }
 
+/// The text of the statement of this name.
+fn query<'a>(statements: &'a Statements, name: &str) -> Option<&'a str> {
+    let found = statements.get(name)?;
+    Some(found.query.as_str())
+}
+
 #[test]
 fn a_state_is_read(rt: HostRuntime) -> Result<(), Fail> {
     let mut s = decode(rt.alloc(), &ROW)?;
@@ -28,20 +34,33 @@ fn a_state_is_read(rt: HostRuntime) -> Result<(), Fail> {
     s.statements.put("", "SELECT $1", &[25])?;
     s.variables.put("x", "6")?;
     assert_eq!(rt; (s.variables.len(), s.statements.has("")), (1, true));
+    assert_eq!(rt;
+        (s.variables.get("x"), s.variables.get("")),
+        (Some("6"), None)
+    );
+    assert_eq!(rt; query(&s.statements, ""), Some("SELECT $1"));
+    assert_eq!(rt; s.statements.at(0).map(|(name, _)| name), Some(""));
+    s.statements.remove("x");
+    assert_eq!(rt; (s.statements.len(), query(&s.statements, "x")), (1, None));
+    s.statements.remove("");
+    assert_eq!(rt; s.statements.has(""), false);
     Ok(())
 }
 
-/// Whether the state's bytes are those of the row, and then, with a statement without a name, one text and one type, those
-/// with it behind.
+/// Whether the state's bytes are those of the row, and so without its statements once it has one, and whether with that
+/// statement, which has no name, one text and one type, they are those with it behind.
 fn rewritten(alloc: Global, s: &mut State) -> Result<(bool, bool), BlobFault> {
     let first = encode(alloc, s)?;
     let is_row = first.as_slice() == ROW.as_slice();
     drop(first);
     s.statements.put("", "Q", &[25])?;
+    let named = encode_with(alloc, s, &Statements::new(alloc))?;
+    let is_named = named.as_slice() == ROW.as_slice();
+    drop(named);
     let longer = encode(alloc, s)?;
     let behind = [0, 1, 0, 0, 0, 0, 0, 0, 0, 1, 81, 0, 1, 0, 0, 0, 25u8];
     let is_longer = longer.len() == 40 && longer.as_slice().ends_with(behind.as_slice());
-    Ok((is_row, is_longer))
+    Ok((is_row && is_named, is_longer))
 }
 
 #[test]

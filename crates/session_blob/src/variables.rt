@@ -2,8 +2,9 @@
 
 ghost use Rattle.std.specs.Prelude.{◌≡◌, false, [], ◌∷◌, ◌++◌, length, OnOk, OnErr};
 ghost use Rattle.std.specs.List.{IsDistinct};
+ghost use Rattle.std.specs.Option.{option_copied};
 ghost use Rattle.std.specs.Str.{bytes_eq};
-ghost use Rattle.pgw_messages.specs.Params.{with_value};
+ghost use Rattle.pgw_messages.specs.Params.{value_of, with_value};
 ghost use Rattle.session_blob.specs.Entries.{pairs_of, is_among, variable_names};
 
 use indexmap::IndexMap;
@@ -48,6 +49,14 @@ impl Variables {
         let value = String::from_str(self.alloc, value)?;
         self.map.insert(name, value)?;
         Ok(())
+    }
+
+    /// The value of this name.
+    pub fn get(&self, name: &str) -> Option<&str>
+        ensures { option_copied result ≡ value_of name.now self.now }
+    {
+        let value = self.map.get(name)?;
+        Some(value.as_str())
     }
 
     /// Whether a variable has this name.

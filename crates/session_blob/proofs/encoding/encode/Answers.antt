@@ -1,6 +1,0 @@
-use Rattle.std.proofs.Common.{arith, sym, ◌∙◌}
-use Rattle.session_blob.proofs.Sound.{spelled}
-use Rattle.session_blob.proofs.encoding.encode.Goals as goal
-
-pub returns-clause-spelled : goal.returns-clause-spelled
-returns-clause-spelled c = spelled c.args.s.now c.in_ok-out.out c.in_ok-out.ensures.good (sym c.too_many.ensures ∙ c.in_default.is) c.in_ok-out.ensures.bytes (omega (arith, c.if-len-gt-MOST_BLOB.false, c.len.ensures))
