@@ -28,7 +28,7 @@ pub(crate) trait Entry: Drop {
 }
 
 /// The key of an entry as a fault names it.
-fn item_key(alloc: Global, key: &str, place: usize) -> Result<String, NoMemory>
+pub fn item_key(alloc: Global, key: &str, place: usize) -> Result<String, NoMemory>
     ensures { IfOk result (λ s. string_bytes s ≡ item_key key.now place) }
 {
     Ok(format!(in alloc; "{key}[{place}]")?)

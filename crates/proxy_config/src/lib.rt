@@ -1,7 +1,8 @@
 //! The proxy's settings, read from TOML.
 //!
 //! A text gives the settings, or the first of its faults, in the order in which its tables are walked.
-//! Nothing here opens a file or a socket.
+//! Nothing here opens a file or a socket. How a table is walked, and how its faults name their keys, is
+//! public, for other programs' settings.
 //!
 //! Sources: TOML v1.1.0; RFC 4291, "IP Version 6 Addressing Architecture", 2.2.
 #![tactic(auto)]
@@ -19,10 +20,13 @@ mod spot;
 mod tenant;
 mod value;
 
+pub use entry::item_key;
 pub use fault::SettingsFault;
 pub use laws::{a_network_is_spelled, an_address_is_spelled};
 pub use read::read_settings;
+pub use section::{Section, path_below, table_at};
 pub use settings::{Allow, Allows, Denies, Nets, Settings, Spot, TenantRows};
+pub use value::spot_at;
 
 #[cfg(test)]
 mod tests;

@@ -20,7 +20,7 @@ use toml::{Table, Value};
 
 /// A table, and what stands before its keys where a fault names them (`tenant[0].`).
 #[derive(Clone, Copy)]
-pub(crate) struct Section<'a> {
+pub struct Section<'a> {
     alloc: Global,
     path: &'a str,
     table: &'a Table,
@@ -52,18 +52,18 @@ fn first_other<'a>(names: &[&str], table: &'a Table) -> Option<&'a str>
 }
 
 impl<'a> Section<'a> {
-    pub(crate) fn new(alloc: Global, path: &'a str, table: &'a Table) -> Section<'a>
+    pub fn new(alloc: Global, path: &'a str, table: &'a Table) -> Section<'a>
         ensures { part_of result ≡ record { path = path.now; members = table_view table.now } }
     {
         Section { alloc, path, table }
     }
 
-    pub(crate) fn allocator(&self) -> Global {
+    pub fn allocator(&self) -> Global {
         self.alloc
     }
 
     /// The key as a fault names it.
-    pub(crate) fn key(&self, name: &str) -> Result<Text, NoMemory>
+    pub fn key(&self, name: &str) -> Result<Text, NoMemory>
         ensures { IfOk result (λ t. t ≡ key_of (part_of self.now) name.now) }
     {
         let path = self.path;
@@ -71,7 +71,7 @@ impl<'a> Section<'a> {
     }
 
     /// Refuses a table that has another key than these.
-    pub(crate) fn known(&self, names: &[&str]) -> Result<(), SettingsFault>
+    pub fn known(&self, names: &[&str]) -> Result<(), SettingsFault>
         ensures { GivesAs (λ _. part_of self.now) result (known (map (λ n. n.now) names.now) (part_of self.now)) }
     {
         if let Some(name) = first_other(names, self.table) {
@@ -81,14 +81,14 @@ impl<'a> Section<'a> {
     }
 
     /// The value at a key.
-    pub(crate) fn get(&self, name: &str) -> Option<&'a Value>
+    pub fn get(&self, name: &str) -> Option<&'a Value>
         ensures { option_map (λ v. view v.now) result ≡ get_member name.now (part_of self.now).members }
     {
         self.table.get(name)
     }
 
     /// The value at a key that is required.
-    pub(crate) fn needed(&self, name: &str) -> Result<&'a Value, SettingsFault>
+    pub fn needed(&self, name: &str) -> Result<&'a Value, SettingsFault>
         ensures { GivesAs (λ v. view v.now) result (needed (part_of self.now) name.now) }
     {
         let Some(value) = self.get(name) else {
@@ -98,7 +98,7 @@ impl<'a> Section<'a> {
     }
 
     /// A whole number in this range.
-    pub(crate) fn number(&self, name: &str, least: u64, most: u64) -> Result<u64, SettingsFault>
+    pub fn number(&self, name: &str, least: u64, most: u64) -> Result<u64, SettingsFault>
         ensures { Gives result (number least most name.now (part_of self.now)) }
     {
         let value = self.needed(name)?;
@@ -107,7 +107,7 @@ impl<'a> Section<'a> {
     }
 
     /// A whole number in this range, where one stands there.
-    pub(crate) fn optional_number(
+    pub fn optional_number(
         &self,
         name: &str,
         least: u64,
@@ -124,7 +124,7 @@ impl<'a> Section<'a> {
     }
 
     /// A whole number in this range, or its default.
-    pub(crate) fn number_or(
+    pub fn number_or(
         &self,
         name: &str,
         default: u64,
@@ -141,7 +141,7 @@ impl<'a> Section<'a> {
     }
 
     /// A text that is required.
-    pub(crate) fn text(&self, name: &str) -> Result<&'a str, SettingsFault>
+    pub fn text(&self, name: &str) -> Result<&'a str, SettingsFault>
         ensures { GivesAs (λ t. t.now) result (text name.now (part_of self.now)) }
     {
         let value = self.needed(name)?;
@@ -150,7 +150,7 @@ impl<'a> Section<'a> {
     }
 
     /// An address with a port, which is required.
-    pub(crate) fn spot(&self, name: &str) -> Result<Spot, SettingsFault>
+    pub fn spot(&self, name: &str) -> Result<Spot, SettingsFault>
         ensures { Gives result (spot name.now (part_of self.now)) }
     {
         let value = self.needed(name)?;
@@ -159,7 +159,7 @@ impl<'a> Section<'a> {
     }
 
     /// A list, where one stands there.
-    pub(crate) fn items(&self, name: &str) -> Result<Option<&'a Array>, SettingsFault>
+    pub fn items(&self, name: &str) -> Result<Option<&'a Array>, SettingsFault>
         ensures { GivesAs (option_map (λ v. array_view v.now)) result (items name.now (part_of self.now)) }
     {
         let Some(value) = self.get(name) else {
@@ -173,11 +173,7 @@ impl<'a> Section<'a> {
 }
 
 /// The table at a key.
-pub(crate) fn table_at<'a>(
-    alloc: Global,
-    key: &str,
-    value: &'a Value,
-) -> Result<&'a Table, SettingsFault>
+pub fn table_at<'a>(alloc: Global, key: &str, value: &'a Value) -> Result<&'a Table, SettingsFault>
     ensures { GivesAs (λ m. table_view m.now) result (ok_or (as_table (view value.now)) (fault.WrongKind key.now)) }
 {
     let Some(table) = value.as_table() else {
@@ -187,7 +183,7 @@ pub(crate) fn table_at<'a>(
 }
 
 /// What stands before the keys of the table at a key.
-pub(crate) fn path_below(alloc: Global, key: &str) -> Result<String, NoMemory>
+pub fn path_below(alloc: Global, key: &str) -> Result<String, NoMemory>
     ensures { IfOk result (λ s. string_bytes s ≡ key.now ++ codes ".") }
 {
     Ok(format!(in alloc; "{key}.")?)

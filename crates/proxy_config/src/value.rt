@@ -67,7 +67,7 @@ pub(crate) fn net_at(alloc: Global, key: &str, value: &Value) -> Result<Net, Set
     Ok(net)
 }
 
-pub(crate) fn spot_at(alloc: Global, key: &str, value: &Value) -> Result<Spot, SettingsFault>
+pub fn spot_at(alloc: Global, key: &str, value: &Value) -> Result<Spot, SettingsFault>
     ensures { Gives result (spot_at key.now (view value.now)) }
 {
     let text = text_at(alloc, key, value)?;

@@ -1,0 +1,11 @@
+pub mod Halves
+pub mod Following
+pub mod Packets
+pub mod Coming
+pub mod Framing
+pub mod Letting
+pub mod Telling
+pub mod Whole
+pub mod Sizes
+pub mod Asking
+pub mod Growing

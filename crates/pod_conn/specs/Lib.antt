@@ -1,0 +1,14 @@
+pub mod Ends
+pub mod Courses
+pub mod Packets
+pub mod Entrances
+pub mod Logins
+pub mod Sessions
+pub mod Replies
+pub mod Ports
+pub mod AtDesks
+pub mod Serving
+pub mod Coming
+pub mod Letting
+pub mod Telling
+pub mod Growing
