@@ -1,0 +1,4 @@
+pub mod Helps
+pub mod Asking
+pub mod Statuses
+pub mod Telling
