@@ -1,0 +1,4 @@
+pub mod Named
+pub mod NoBlob
+pub mod Parts
+pub mod Seen
